@@ -1,0 +1,12 @@
+//! What a text of LLVM IR is read into, and how a text that isn't accepted is refused: faults with their codes,
+//! places, and the line that says so. The readers above answer these refusals, and the program prints their line.
+#![tactic(auto)]
+
+mod faults;
+mod refusals;
+
+pub use faults::{Fault, Limit};
+pub use refusals::{Place, ReadError, Refusal};
+
+#[cfg(test)]
+mod tests;
