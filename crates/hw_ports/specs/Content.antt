@@ -1,0 +1,28 @@
+-- What stands under a file's name, and what a read of it gives.
+use Rattle.std.specs.Prelude.{◌≡◌, ℕ, ◌<◌, ◌≤◌, List, [], ◌∷◌, ◌++◌, length, Result, Ok, Err, ⊤}
+use Rattle.hw_ports.specs.declared.ports.FileText.{FileText}
+use Rattle.hw_ports.specs.declared.ports.FileText.TheVariants.{Whole, Longer}
+use Rattle.hw_ports.specs.declared.ports.FileError.{FileError}
+use Rattle.hw_ports.specs.declared.ports.FileError.TheVariants.{Failed, OutOfMemory}
+
+-- what stands under a name
+pub data Content : Type 0 where
+  Unobservable : Content
+  Absent : Content
+  Bytes : List ℕ → Content
+
+-- What a read of at most `limit` bytes gives: of a name under which nothing stands it fails; of bytes it gives all, or
+-- says that there are more.
+abbrev pub Reads : Content → ℕ → Result FileText FileError → List ℕ → Type 0
+Reads Unobservable limit result into = ⊤
+Reads Absent limit (Ok text) into = ⊥
+Reads Absent limit (Err error) into = ⊤
+Reads (Bytes bytes) limit (Ok Whole) into = (into ≡ bytes) × (length bytes ≤ limit)
+Reads (Bytes bytes) limit (Ok Longer) into = limit < length bytes
+Reads (Bytes bytes) limit (Err error) into = ⊤
+
+-- the names of failed reads after a read
+abbrev pub failed_after : {T : Type 0} → Result T FileError → List (List ℕ) → List ℕ → List (List ℕ)
+failed_after (Ok text) names name = names
+failed_after (Err Failed) names name = names ++ name ∷ []
+failed_after (Err OutOfMemory) names name = names

@@ -1,0 +1,26 @@
+ghost use Rattle.std.specs.Prelude.{◌≡◌, ◌∷◌, [], ◌++◌, ◌+◌, ◌≤◌, IfOk, OnErr, OnOk, vec_len, vec_capacity};
+
+use hw_base::ByteList;
+use std::alloc::{AllocError, Global};
+
+/// A name and the bytes that stand under it.
+#[derive(Drop)]
+pub struct StoredFile {
+    pub name: ByteList,
+    pub text: ByteList,
+}
+
+/// A copy of a name, and room for it in the list of failed names.
+pub fn reserved_entry(
+    failed: &mut Vec<ByteList>,
+    alloc: Global,
+    name: &[u8],
+) -> Result<ByteList, AllocError>
+    ensures items { failed.new.items ≡ failed.old.items }
+    ensures entry { IfOk result (λ entry. entry ≡ name.now) }
+    ensures room { OnOk result (vec_len failed.new + 1 ≤ vec_capacity failed.new) }
+{
+    let entry = Vec::from_slice(alloc, name)?;
+    failed.reserve(1)?;
+    Ok(ByteList::from_vec(entry))
+}
