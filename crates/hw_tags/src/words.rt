@@ -19,7 +19,7 @@ enum Source {
 }
 
 impl Words {
-    ghost use Rattle.std.specs.Prelude.{◌≡◌, ℕ, ◌+◌, IfOk};
+    ghost use Rattle.std.specs.Prelude.{◌≡◌, ℕ, ◌+◌, IsOk, IfOk};
     ghost use Rattle.hw_tags.specs.declared.words_spec.WordsSpec.{WordsSpec};
     ghost use Rattle.hw_tags.specs.Word.{word, IsNotEmpty};
     ghost use Rattle.hw_tags.specs.Words.{coming, AreWordsFrom};
@@ -28,7 +28,8 @@ impl Words {
     /// length; a seed takes none. The error comes only where the copy finds no memory.
     pub fn new(alloc: Global, spec: &WordsSpec) -> Result<Words, OutOfMemory>
         requires { IsNotEmpty spec.now }
-        ensures { IfOk result (λ words. AreWordsFrom spec.now 0 words) }
+        ensures from_zero { IfOk result (λ words. AreWordsFrom spec.now 0 words) }
+        ensures seed { (seed : ℕ) → spec.now ≡ WordsSpec.Seed seed → IsOk result }
     {
         let source = Source::new(alloc, spec)?;
         Ok(Words { source })
@@ -48,13 +49,15 @@ impl Words {
 }
 
 impl Source {
-    ghost use Rattle.std.specs.Prelude.{◌≡◌, ℕ, ◌+◌, IfOk};
+    ghost use Rattle.std.specs.Prelude.{◌≡◌, ℕ, ◌+◌, IsOk, IfOk};
+    ghost use Rattle.hw_tags.specs.declared.words_spec.WordsSpec.{WordsSpec};
     ghost use Rattle.hw_tags.specs.Word.{word, IsNotEmpty};
     ghost use Rattle.hw_tags.specs.Words.{coming_from};
 
     fn new(alloc: Global, spec: &WordsSpec) -> Result<Source, OutOfMemory>
         requires { IsNotEmpty spec.now }
-        ensures { IfOk result (λ source. (k : ℕ) → coming_from source k ≡ word spec.now k) }
+        ensures from_zero { IfOk result (λ source. (k : ℕ) → coming_from source k ≡ word spec.now k) }
+        ensures seed { (seed : ℕ) → spec.now ≡ WordsSpec.Seed seed → IsOk result }
     {
         match spec {
             WordsSpec::Cycle(list) => Ok(Source::Repeated(RepeatedList::new(alloc, list)?)),
