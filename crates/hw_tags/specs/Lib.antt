@@ -1,0 +1,5 @@
+pub mod Options
+pub mod Tag
+pub mod Turn
+pub mod Word
+pub mod Words

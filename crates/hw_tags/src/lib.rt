@@ -1,0 +1,20 @@
+//! Where tags come from: the tag words and turn words that the user chose, drawn one by one, and the formulas that
+//! make a tag of a word. The main call is [`Words::next`], which gives the i-th word of a specification for the i-th
+//! draw; the layers above speak of words by their index, and of the choice of the next task by the turn word drawn.
+#![tactic(auto)]
+
+mod options;
+mod repeated_list;
+mod tags;
+mod turns;
+mod words;
+mod words_spec;
+
+pub use options::Options;
+pub use tags::{frame_tag, free_tag, global_tag, heap_tag};
+pub use turns::next_task_is_unfinished;
+pub use words::Words;
+pub use words_spec::WordsSpec;
+
+#[cfg(test)]
+mod tests;
