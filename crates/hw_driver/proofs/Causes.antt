@@ -1,0 +1,107 @@
+-- The cause of each answer, and that no fault is passed over.
+use Rattle.std.proofs.Common.{◌≡◌, ℕ, ◌+◌, ◌<◌, true, cond, List, [], ◌∷◌, ◌++◌, Some, None, refl, sym, ◌∙◌, ap, subst, inl, inr, arith}
+use Rattle.std.specs.Prelude.{Option}
+use Rattle.std.specs.Str.{bytes_eq}
+use Rattle.std.proofs.lemmas.List.Sums.{sum_by-append}
+use Rattle.std.proofs.lemmas.Slice.Eq.{bytes_eq-Decides}
+use Rattle.hw_base.specs.declared.endings.Status.{Status}
+use Rattle.hw_base.specs.declared.endings.Status.TheVariants.{WriteFault}
+use Rattle.hw_ports.specs.Content.{Content}
+use Rattle.hw_driver.specs.Line.{Line}
+use Rattle.hw_driver.specs.Machine.{MachineEnding, Exits, EndsInReport, machine_run}
+use Rattle.hw_driver.specs.Answer.{Decision, FileRead, Runs, JudgesText, file_read, file_failed, memory_failed, Decides, SinkChange, Delivers, delivered, out_failed, err_failed, Answers, ending_decision, tag_under}
+use Rattle.hw_driver.specs.Promises.{times, FileRose, HasRead, HasItsCause, IsFileOrWriteFault, AnswersRises}
+
+-- bytes are equal to themselves
+bytes_eq-self : (bs : List ℕ) → bytes_eq bs bs ≡ true
+bytes_eq-self bs = (bytes_eq-Decides bs bs).1 refl
+
+-- a name at the end counts once more
+pub times-push : (name : List ℕ) (names : List (List ℕ)) → times name (names ++ name ∷ []) ≡ times name names + 1
+times-push name names =
+    sum_by-append (λ other. cond (bytes_eq other name) 1 0) names (name ∷ []) ∙ ap (λ b. times name names + (0 + cond b 1 0)) (bytes_eq-self name)
+
+-- how a run ended is the cause of its status
+ending_cause : (words : Option Line) (content : List ℕ → Content) (old new : List (List ℕ)) (out err : SinkChange) (l : Line) (read : FileRead) (d : Decision)
+    → HasRead words content l read → (r : Runs l read d) → (e : MachineEnding) → machine_run (tag_under l) r.program ≡ e
+    → HasItsCause words content old new out err (ending_decision e).status
+ending_cause words content old new out err l read d has r (Exits output step) is = record {
+  command = l;
+  read = read;
+  has_read = has;
+  program = r.program;
+  accepted = r.accepted;
+  ending = ap (λ e. (ending_decision e).status) is;
+}
+ending_cause words content old new out err l read d has r (EndsInReport output failed) is = record {
+  command = l;
+  read = read;
+  has_read = has;
+  program = r.program;
+  accepted = r.accepted;
+  ending = ap (λ e. (ending_decision e).status) is;
+}
+
+text_cause : (words : Option Line) (content : List ℕ → Content) (old new : List (List ℕ)) (out err : SinkChange) (l : Line) (read : FileRead) (d : Decision)
+    → HasRead words content l read → JudgesText l read d → HasItsCause words content old new out err d.status
+text_cause words content old new out err l read d has (inl r) =
+    subst (λ (x : Decision). HasItsCause words content old new out err x.status) (sym r.decision) (ending_cause words content old new out err l read d has r (machine_run (tag_under l) r.program) refl)
+text_cause words content old new out err l read d has (inr r) =
+    subst (λ (x : Decision). HasItsCause words content old new out err x.status) (sym r.decision)
+    (record { command = l; read = read; has_read = has; not_accepted = r.not_accepted })
+
+decision_cause : (words : Option Line) (content : List ℕ → Content) (old new : List (List ℕ)) (out err : SinkChange) (d : Decision)
+    → Decides content old new words d → HasItsCause words content old new out err d.status
+decision_cause None content old new out err d decided = subst (λ (x : Decision). HasItsCause None content old new out err x.status) (sym decided.1) refl
+decision_cause (Some l) content old new out err d (file_read j) = text_cause (Some l) content old new out err l j.read d (record { line = refl; read_as = j.reads_as }) j.text
+decision_cause (Some l) content old new out err d (file_failed grown is) =
+    subst (λ (x : Decision). HasItsCause (Some l) content old new out err x.status) (sym is) (rw (grown, times-push l.file old) (omega arith))
+decision_cause (Some l) content old new out err d (memory_failed same is) = subst (λ (x : Decision). HasItsCause (Some l) content old new out err x.status) (sym is) tt
+
+delivery_cause : (words : Option Line) (content : List ℕ → Content) (old new : List (List ℕ)) (result : Status) (out err : SinkChange) (d : Decision)
+    → Decides content old new words d → Delivers d result out err → HasItsCause words content old new out err result
+delivery_cause words content old new result out err d decided (delivered is o e) =
+    subst (HasItsCause words content old new out err) (sym is) (decision_cause words content old new out err d decided)
+delivery_cause words content old new result out err d decided (out_failed is o e) = subst (HasItsCause words content old new out err) (sym is) (inl o.rose)
+delivery_cause words content old new result out err d decided (err_failed is o e) = subst (HasItsCause words content old new out err) (sym is) (inr e.rose)
+
+-- each answer has its cause
+pub Answers-cause : (words : Option Line) (content : List ℕ → Content) (old new : List (List ℕ)) (result : Status) (out err : SinkChange)
+    → Answers words content old new result out err → HasItsCause words content old new out err result
+Answers-cause words content old new result out err a = delivery_cause words content old new result out err a.decision a.decided a.delivered
+
+out_rise : (d : Decision) (result : Status) (out err : SinkChange) → Delivers d result out err → out.faults_before < out.faults_after → result ≡ WriteFault
+out_rise d result out err (delivered is o e) rose = absurd (omega (arith, o.quiet))
+out_rise d result out err (out_failed is o e) rose = is
+out_rise d result out err (err_failed is o e) rose = is
+
+err_rise : (d : Decision) (result : Status) (out err : SinkChange) → Delivers d result out err → err.faults_before < err.faults_after → result ≡ WriteFault
+err_rise d result out err (delivered is o e) rose = absurd (omega (arith, e.quiet))
+err_rise d result out err (out_failed is o e) rose = is
+err_rise d result out err (err_failed is o e) rose = is
+
+-- without a failed read of the file its count stays
+pub unrisen : (name : List ℕ) (old new : List (List ℕ)) → new ≡ old → times name old < times name new → ⊥
+unrisen name old new same rose = let less : times name old < times name old = rw same at rose in omega (arith, less)
+
+file_rise_of : (words : Option Line) (content : List ℕ → Content) (old new : List (List ℕ)) (d : Decision)
+    → Decides content old new words d → FileRose words old new → IsFileOrWriteFault d.status
+file_rise_of None content old new d decided rose = absurd rose
+file_rise_of (Some l) content old new d (file_read j) rose = absurd (unrisen l.file old new j.no_fault rose)
+file_rise_of (Some l) content old new d (file_failed grown is) rose = subst (λ (x : Decision). IsFileOrWriteFault x.status) (sym is) tt
+file_rise_of (Some l) content old new d (memory_failed same is) rose = absurd (unrisen l.file old new same rose)
+
+file_rise : (words : Option Line) (content : List ℕ → Content) (old new : List (List ℕ)) (result : Status) (out err : SinkChange) (d : Decision)
+    → Decides content old new words d → Delivers d result out err → FileRose words old new → IsFileOrWriteFault result
+file_rise words content old new result out err d decided (delivered is o e) rose = subst IsFileOrWriteFault (sym is) (file_rise_of words content old new d decided rose)
+file_rise words content old new result out err d decided (out_failed is o e) rose = subst IsFileOrWriteFault (sym is) tt
+file_rise words content old new result out err d decided (err_failed is o e) rose = subst IsFileOrWriteFault (sym is) tt
+
+-- no fault is passed over
+pub Answers-rises : (words : Option Line) (content : List ℕ → Content) (old new : List (List ℕ)) (result : Status) (out err : SinkChange)
+    → Answers words content old new result out err → AnswersRises words old new out err result
+Answers-rises words content old new result out err a = record {
+  out_rose = out_rise a.decision result out err a.delivered;
+  err_rose = err_rise a.decision result out err a.delivered;
+  file_rose = file_rise words content old new result out err a.decision a.decided a.delivered;
+}

@@ -1,0 +1,13 @@
+pub mod Causes
+pub mod ClosingBytes
+pub mod Detected
+pub mod Exactness
+pub mod Groups
+pub mod Judged
+pub mod MachineRuns
+pub mod Numerals
+pub mod Regrouped
+pub mod Sent
+pub mod Simulation
+pub mod Spelled
+pub mod Spelling

@@ -1,0 +1,14 @@
+pub mod Answer
+pub mod Closing
+pub mod Decided
+pub mod Detection
+pub mod Line
+pub mod LineView
+pub mod Machine
+pub mod Program
+pub mod Promises
+pub mod Reading
+pub mod Sending
+pub mod Source
+pub mod Tags
+pub mod Views

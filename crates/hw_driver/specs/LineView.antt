@@ -1,0 +1,12 @@
+-- How the definitions see the words and a command of the code.
+use Rattle.std.specs.Prelude.{ℕ, List, map, String, string_bytes}
+use Rattle.std.specs.declared.alloc.Global.{Global}
+use Rattle.hw_driver.specs.declared.words.Command.{Command}
+use Rattle.hw_driver.specs.Line.{Line}
+
+abbrev pub line_view : Command → Line
+line_view c = record { file = c.file.now; word = c.word }
+
+-- the words as bytes
+abbrev pub texts : List (String Global) → List (List ℕ)
+texts words = map string_bytes words
