@@ -1,4 +1,4 @@
-ghost use Rattle.std.specs.Prelude.{◌≡◌, ℕ, ◌+◌, ◌<◌, [], length, IfOk};
+ghost use Rattle.std.specs.Prelude.{◌≡◌, ℕ, ◌+◌, ◌<◌, length, IfOk};
 ghost use Rattle.hw_tags.specs.Word.{repeated};
 
 use hw_base::{ByteList, OutOfMemory};
@@ -6,15 +6,15 @@ use std::alloc::Global;
 
 /// A list that isn't empty, and the place in it from which words are read on and on.
 #[derive(Drop)]
-pub struct RepeatedList {
+pub(crate) struct RepeatedList {
     list: ByteList,
     at: u64,
-    pub ghost within: { at < length list },
+    ghost within: { at < length list },
 }
 
 impl RepeatedList {
     /// A copy of the list, at its first word.
-    pub fn new(alloc: Global, list: &ByteList) -> Result<RepeatedList, OutOfMemory>
+    pub(crate) fn new(alloc: Global, list: &ByteList) -> Result<RepeatedList, OutOfMemory>
         requires { 0 < length list.now }
         ensures list { IfOk result (λ r. r.list ≡ list.now) }
         ensures at { IfOk result (λ r. r.at ≡ 0) }
@@ -27,9 +27,10 @@ impl RepeatedList {
     }
 
     /// The word at the place, which moves on by one, and from the end to the beginning.
-    pub fn next(&mut self) -> u8
+    pub(crate) fn next(&mut self) -> u8
         ensures first { result ≡ repeated self.old.list self.old.at }
-        ensures rest { (k : ℕ) → repeated self.new.list (self.new.at + k) ≡ repeated self.old.list (self.old.at + (k + 1)) }
+        ensures rest { (k : ℕ) → repeated self.new.list (self.new.at + k)
+            ≡ repeated self.old.list (self.old.at + (k + 1)) }
     {
         let word = self.list.as_slice()[self.at as usize];
         let following = self.at + 1;

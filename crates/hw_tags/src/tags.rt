@@ -38,7 +38,8 @@ pub fn frame_tag(word: u8, variable: u32) -> u8
     ensures value { result ≡ frame_tag_of word variable }
     ensures lowest { 1 ≤ result }
     ensures highest { result ≤ 255 }
-    ensures same { (k : ℕ) → k ≤ variable → ((frame_tag_of word k ≡ result) ↔ ((variable - k) % 255 ≡ 0)) }
+    ensures same { (k : ℕ) → k ≤ variable
+        → ((frame_tag_of word k ≡ result) ↔ ((variable - k) % 255 ≡ 0)) }
 {
     1 + ((word as u64 + variable as u64) % 255) as u8
 }
@@ -50,7 +51,8 @@ pub fn global_tag(word: u8, global: u32) -> u8
     ensures value { result ≡ global_tag_of word global }
     ensures lowest { 16 ≤ result }
     ensures highest { result ≤ 255 }
-    ensures same { (k : ℕ) → k ≤ global → ((global_tag_of word k ≡ result) ↔ ((global - k) % 240 ≡ 0)) }
+    ensures same { (k : ℕ) → k ≤ global
+        → ((global_tag_of word k ≡ result) ↔ ((global - k) % 240 ≡ 0)) }
 {
     16 + ((word as u64 % 240 + global as u64) % 240) as u8
 }

@@ -1,3 +1,5 @@
+ghost use Rattle.std.specs.Prelude.{◌≡◌, ℕ, ◌+◌, ◌%◌, ◌^◌, IsOk, IfOk};
+
 use crate::WordsSpec;
 use crate::repeated_list::RepeatedList;
 use hw_base::OutOfMemory;
@@ -19,7 +21,6 @@ enum Source {
 }
 
 impl Words {
-    ghost use Rattle.std.specs.Prelude.{◌≡◌, ℕ, ◌+◌, IsOk, IfOk};
     ghost use Rattle.hw_tags.specs.declared.words_spec.WordsSpec.{WordsSpec};
     ghost use Rattle.hw_tags.specs.Word.{word, IsNotEmpty};
     ghost use Rattle.hw_tags.specs.Words.{coming, AreWordsFrom};
@@ -29,7 +30,7 @@ impl Words {
     pub fn new(alloc: Global, spec: &WordsSpec) -> Result<Words, OutOfMemory>
         requires { IsNotEmpty spec.now }
         ensures from_zero { IfOk result (λ words. AreWordsFrom spec.now 0 words) }
-        ensures seed { (seed : ℕ) → spec.now ≡ WordsSpec.Seed seed → IsOk result }
+        ensures seed_takes_no_memory { (seed : ℕ) → spec.now ≡ WordsSpec.Seed seed → IsOk result }
     {
         let source = Source::new(alloc, spec)?;
         Ok(Words { source })
@@ -42,14 +43,14 @@ impl Words {
 
         // The same of a specification: where word i is the next one, it is the answer, and word i + 1 is next.
         ensures word { (spec : WordsSpec) (i : ℕ) → AreWordsFrom spec i self.old → result ≡ word spec i }
-        ensures next { (spec : WordsSpec) (i : ℕ) → AreWordsFrom spec i self.old → AreWordsFrom spec (i + 1) self.new }
+        ensures next { (spec : WordsSpec) (i : ℕ) → AreWordsFrom spec i self.old
+            → AreWordsFrom spec (i + 1) self.new }
     {
         self.source.next()
     }
 }
 
 impl Source {
-    ghost use Rattle.std.specs.Prelude.{◌≡◌, ℕ, ◌+◌, IsOk, IfOk};
     ghost use Rattle.hw_tags.specs.declared.words_spec.WordsSpec.{WordsSpec};
     ghost use Rattle.hw_tags.specs.Word.{word, IsNotEmpty};
     ghost use Rattle.hw_tags.specs.Words.{coming_from};
@@ -57,7 +58,7 @@ impl Source {
     fn new(alloc: Global, spec: &WordsSpec) -> Result<Source, OutOfMemory>
         requires { IsNotEmpty spec.now }
         ensures from_zero { IfOk result (λ source. (k : ℕ) → coming_from source k ≡ word spec.now k) }
-        ensures seed { (seed : ℕ) → spec.now ≡ WordsSpec.Seed seed → IsOk result }
+        ensures seed_takes_no_memory { (seed : ℕ) → spec.now ≡ WordsSpec.Seed seed → IsOk result }
     {
         match spec {
             WordsSpec::Cycle(list) => Ok(Source::Repeated(RepeatedList::new(alloc, list)?)),
@@ -76,9 +77,7 @@ impl Source {
     }
 }
 
-ghost use Rattle.std.specs.Prelude.{◌≡◌, ◌%◌, ◌^◌};
-
-/// The low eight bits.
+/// The low eight bits, as a word.
 fn low_byte(word: u32) -> u8
     ensures { result ≡ word % 2 ^ 8 }
 {
