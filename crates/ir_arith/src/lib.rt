@@ -15,3 +15,6 @@ pub use bit_intrinsics::bits;
 pub use comparisons::compare;
 pub use conversions::cast;
 pub use overflow_intrinsics::overflow;
+
+#[cfg(test)]
+mod tests;
