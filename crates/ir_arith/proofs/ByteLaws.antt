@@ -70,7 +70,7 @@ reversed_bytes-wider (suc k) (suc s) j a e below =
     sym (add-mul (a % 256 * 256 ^ k) (reversed_bytes k (a / 256)) (256 ^ j)) in
     reversed_bytes-suc s a ∙ ap₂ (λ x y. x + y) first rest ∙ spread ∙ ap (λ t. t * 256 ^ j) (sym (reversed_bytes-suc k a))
 
-pow_of_bytes : (k : ℕ) → 256 ^ k ≡ 2 ^ (8 * k)
+pub pow_of_bytes : (k : ℕ) → 256 ^ k ≡ 2 ^ (8 * k)
 pow_of_bytes zero = refl
 pow_of_bytes (suc k) =
     let more : 8 * k + 8 ≡ 8 * suc k = omega arith in

@@ -7,3 +7,4 @@ pub mod FunnelLaws
 pub mod ByteLaws
 pub mod OverflowLaws
 pub mod SignedChoiceLaws
+pub mod ResultBounds

@@ -27,11 +27,11 @@ ctlz_result width a = count_leading_zeros width a
 abbrev pub cttz_result : ℕ → ℕ → ℕ
 cttz_result width a = count_trailing_zeros width a
 
--- "'llvm.fshl.*' Intrinsic": the top half of a before b, shifted left by c modulo the width
+-- "'llvm.fshl.*' Intrinsic": a above b in twice the width, shifted left by c modulo the width, of which the top half is kept
 unfoldable pub fshl_result : ℕ → ℕ → ℕ → ℕ → ℕ
 fshl_result width a b c = (a * 2 ^ width + b) * 2 ^ (c % width) / 2 ^ width % 2 ^ width
 
--- "'llvm.fshr.*' Intrinsic": the bottom half of a before b, shifted right by c modulo the width
+-- "'llvm.fshr.*' Intrinsic": a above b in twice the width, shifted right by c modulo the width, of which the bottom half is kept
 unfoldable pub fshr_result : ℕ → ℕ → ℕ → ℕ → ℕ
 fshr_result width a b c = (a * 2 ^ width + b) / 2 ^ (c % width) % 2 ^ width
 
