@@ -1,0 +1,10 @@
+pub mod Residues
+pub mod TwosComplementLaws
+pub mod BinaryLaws
+pub mod DivisionLaws
+pub mod CountLaws
+pub mod FunnelLaws
+pub mod ByteLaws
+pub mod OverflowLaws
+pub mod SignedChoiceLaws
+pub mod ResultBounds

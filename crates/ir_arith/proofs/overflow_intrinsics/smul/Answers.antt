@@ -1,0 +1,17 @@
+use Rattle.std.proofs.Common.{◌∙◌, subst₂, ◌*ℤ◌, ℤ, SomeIff, FitsSigned}
+use Rattle.std.specs.Int.{w128}
+use Rattle.ir_arith.specs.TwosComplement.{signed_of}
+use Rattle.ir_arith.proofs.TwosComplementLaws.{held}
+use Rattle.ir_arith.proofs.OverflowLaws.{same_pair, unsigned_of-signed_product, outside_signed}
+use Rattle.ir_arith.proofs.overflow_intrinsics.smul.Goals as goal
+
+pub returns-clause-value : goal.returns-clause-value
+returns-clause-value c =
+    let first = held (signed_of c.args.width c.args.a) c.signed.result c.signed.type_inv c.signed.ensures in
+    let second = held (signed_of c.args.width c.args.b) c.signed-2.result c.signed-2.type_inv c.signed-2.ensures in
+    let exact = signed_of c.args.width c.args.a *ℤ signed_of c.args.width c.args.b in
+    same_pair c.mul.result _ c.is_outside_signed-is_outside.result _
+    (c.mul.ensures.value ∙ unsigned_of-signed_product c.args.width c.args.a c.args.b c.requires.from_1 c.requires.a_below c.requires.b_below)
+    (outside_signed c.args.width c.checked_mul.result exact c.is_outside_signed-is_outside.result c.requires.from_1 c.requires.to_128
+    (let P : ℤ → ℤ → Type 0 = λ x y. SomeIff c.checked_mul.result (FitsSigned w128 (x *ℤ y)) (x *ℤ y) in subst₂ P first second c.checked_mul.ensures)
+    c.is_outside_signed-is_outside.ensures)

@@ -1,0 +1,6 @@
+pub mod TwosComplement
+pub mod Binary
+pub mod Comparison
+pub mod Conversion
+pub mod BitIntrinsics
+pub mod Overflow
