@@ -1,6 +1,6 @@
 -- Which bytes are a token, kind by kind. The spellings are those of the LLVM Language Reference ("Identifiers",
 -- "Lexical Structure", "Metadata Identifiers"); that text is cut into these kinds is this project's choice.
-use Rattle.std.specs.Prelude.{ℕ, List, [], ◌∷◌, ◌++◌, length, Bool, true, not, ◌≡◌, ◌≢◌, ◌<◌, ◌^◌, ◌==◌, ◌||◌, nat_le, nat_lt, if◌then◌else◌, codes}
+use Rattle.std.specs.Prelude.{ℕ, List, [], ◌∷◌, ◌++◌, length, Bool, true, not, ◌≡◌, ◌≢◌, ◌<◌, ◌^◌, ◌==◌, ◌||◌, nat_le, ◌-◌, if◌then◌else◌, codes}
 use Rattle.std.specs.List.{AllPass, list_any}
 use Rattle.std.specs.Char.{is_ascii_digit, is_ascii_alphabetic}
 use Rattle.std.specs.Str.Parse.{digits_value}
@@ -113,4 +113,4 @@ pub data Spells : TokenKind → List ℕ → Type 0 where
 -- an integer from -2^127 to 2^128 - 1, by its decimal digits after a `-` or none
 abbrev pub is_in_range : List ℕ → Bool
 is_in_range [] = true
-is_in_range (b ∷ bytes) = if b == minus then nat_le (digits_value 10 bytes) (2 ^ 127) else nat_lt (digits_value 10 (b ∷ bytes)) (2 ^ 128)
+is_in_range (b ∷ bytes) = if b == minus then nat_le (digits_value 10 bytes) (2 ^ 127) else nat_le (digits_value 10 (b ∷ bytes)) (2 ^ 128 - 1)

@@ -78,3 +78,8 @@ pub record IsBadTokenAt (text : List ℕ) (place : Place) : Type 0 where
   pub begins : is_separator (get_or text at 0) ≡ false
   pub none : (t : Token) → t.from ≡ at → IsToken text t → ⊥
   pub placed : place ≡ place_after (take at text)
+
+-- from an offset on, each gap and each token's bytes, one behind the other, and what is left behind the last
+abbrev pub joined : List ℕ → ℕ → List Token → List ℕ
+joined text from [] = drop from text
+joined text from (t ∷ ts) = bytes_between text from t.from ++ (bytes_of text t ++ joined text t.to ts)
