@@ -13,3 +13,6 @@ mod reach;
 
 pub use laws::each_text_is_cut_in_one_way;
 pub use lexer::lex;
+
+#[cfg(test)]
+mod tests;
