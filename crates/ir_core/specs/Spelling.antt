@@ -1,5 +1,6 @@
--- Which bytes are a token, kind by kind. The spellings are those of the LLVM Language Reference ("Identifiers",
--- "Lexical Structure", "Metadata Identifiers"); that text is cut into these kinds is this project's choice.
+-- Which bytes are a token, kind by kind. The spellings are those of the LLVM Language Reference ("Identifiers" for names
+-- and labels, "Simple Constants" for numbers, "Notational Conventions" for strings, "Metadata", "Attribute Groups"); that
+-- they are sorted into these kinds is this project's choice.
 use Rattle.std.specs.Prelude.{ℕ, List, [], ◌∷◌, ◌++◌, length, Bool, true, not, ◌≡◌, ◌≢◌, ◌<◌, ◌^◌, ◌==◌, ◌||◌, nat_le, ◌-◌, if◌then◌else◌, codes}
 use Rattle.std.specs.List.{AllPass, list_any}
 use Rattle.std.specs.Char.{is_ascii_digit, is_ascii_alphabetic}

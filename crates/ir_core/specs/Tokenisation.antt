@@ -1,6 +1,6 @@
 -- How a text is cut into tokens, or where no token can be read. The tokens are those of `Spelling`; between them stand
--- blanks and comments (LLVM Language Reference, "Lexical Structure"). Places are this project's choice: lines and columns
--- from 1, columns in bytes, and LF alone ends a line.
+-- blanks and comments (LLVM Language Reference, "Identifiers"). Places are this project's choice: lines and columns from 1,
+-- columns in bytes, and LF alone ends a line.
 use Rattle.std.specs.Prelude.{ℕ, List, [], ◌∷◌, ◌++◌, length, take, drop, get_or, Bool, true, false, not, ◌≡◌, ◌+◌, ◌<◌, ◌≤◌, ◌==◌, count_by}
 use Rattle.std.specs.List.{AllPass, suffix_len}
 use Rattle.ir_core.specs.declared.token.Token.{Token}

@@ -14,3 +14,5 @@ pub use token_list::Tokens;
 
 #[cfg(test)]
 mod tests;
+#[cfg(test)]
+mod token_tests;

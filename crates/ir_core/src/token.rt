@@ -1,4 +1,5 @@
 use crate::Place;
+use std::mem::size_of;
 
 /// The kinds of tokens, by their spelling. `specs/Spelling.antt` says which bytes are a token of each.
 #[derive(Clone, Copy, Debug, PartialEq, Eq)]
@@ -37,3 +38,6 @@ pub struct Token {
     pub to: u32,
     pub place: Place,
 }
+
+// The tokens of a text of 16 MiB take at most 32 times its bytes.
+const _: () = prove!(size_of::<Token>() <= 32);

@@ -13,6 +13,7 @@ pub(crate) struct Found {
     pub(crate) len: usize,
 }
 
+/// Every kind of token.
 pub(crate) const KINDS: [TokenKind; 14] = [
     TokenKind::Word,
     TokenKind::Label,
@@ -50,6 +51,7 @@ fn grown(n: usize) -> usize
     if n > 0 { n + 1 } else { 0 }
 }
 
+/// One more, where there is something and a colon at once behind it.
 fn with_colon(n: usize, bytes: &[u8]) -> usize
     requires { n < 2 ^ 63 }
     ensures { result ≡ with_colon n bytes.now }
