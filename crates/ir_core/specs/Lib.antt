@@ -1,2 +1,5 @@
 pub mod Faults
 pub mod Refusals
+pub mod Spelling
+pub mod Tokenisation
+pub mod Tokens

@@ -4,9 +4,15 @@
 
 mod faults;
 mod refusals;
+mod token;
+mod token_list;
 
 pub use faults::{Fault, Limit};
 pub use refusals::{Place, ReadError, Refusal};
+pub use token::{Token, TokenKind};
+pub use token_list::Tokens;
 
 #[cfg(test)]
 mod tests;
+#[cfg(test)]
+mod token_tests;

@@ -1,0 +1,15 @@
+pub mod Bytes
+pub mod Cuts
+pub mod Fronts
+pub mod GapLaws
+pub mod Heads
+pub mod KindsReach
+pub mod KindsSound
+pub mod Longest
+pub mod OneKind
+pub mod Pieces
+pub mod Places
+pub mod Ranges
+pub mod Scans
+pub mod Sound
+pub mod Wholes

@@ -1,0 +1,42 @@
+ghost use Rattle.std.specs.Prelude.{◌≡◌, ◌≤◌, length};
+ghost use Rattle.ir_core.specs.declared.faults.Fault.TheVariants.{BadToken};
+ghost use Rattle.ir_lex.specs.Lexes.{Lexes};
+
+use crate::cursor::Cursor;
+use ir_core::{Fault, Place, ReadError, Refusal, Tokens};
+use std::alloc::Global;
+
+fn bad_token(place: Place) -> Refusal
+    ensures fault { result.fault ≡ BadToken }
+    ensures line { result.line ≡ place.line }
+    ensures column { result.column ≡ place.column }
+{
+    Refusal {
+        fault: Fault::BadToken,
+        line: place.line,
+        column: place.column,
+    }
+}
+
+/// The tokens of a text of at most 16 MiB, in order, beside the text. The spellings are those of the LLVM Language
+/// Reference; the kinds that they are sorted into are this project's choice. The error is `Refused` with `BadToken` at
+/// the first byte at which no token can be read, exactly where the text isn't a row of tokens: for a string without an
+/// end its first byte, for an integer outside -2^127 to 2^128 - 1 its first byte. Else it is want of memory.
+pub fn lex<'a>(alloc: Global, text: &'a [u8]) -> Result<Tokens<'a>, ReadError>
+    requires { length text.now ≤ 16777216 }
+    ensures { Lexes text.now result }
+{
+    let mut cursor = Cursor::new(text);
+    let mut tokens = Tokens::new(alloc, text);
+    cursor.skip_gap();
+    while cursor.is_inside() {
+        match cursor.take_token() {
+            Some(token) => match tokens.push(token) {
+                Ok(()) => cursor.skip_gap(),
+                Err(_) => return Err(ReadError::OutOfMemory),
+            },
+            None => return Err(ReadError::Refused(bad_token(cursor.place()))),
+        }
+    }
+    Ok(tokens)
+}

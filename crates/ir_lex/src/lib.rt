@@ -1,0 +1,18 @@
+//! The first phase of reading: a text becomes its tokens with their places, or is refused at the first byte at which no
+//! token can be read. The main call is `lex`. The readers above rely on it: what it answers is the one tokenisation of
+//! the text, and a refusal comes exactly where there is none.
+#![tactic(auto)]
+
+mod classes;
+mod cursor;
+mod front;
+mod gaps;
+mod laws;
+mod lexer;
+mod reach;
+
+pub use laws::each_text_is_cut_in_one_way;
+pub use lexer::lex;
+
+#[cfg(test)]
+mod tests;
