@@ -1,0 +1,36 @@
+use hw_base::{BitOp, OverOp};
+
+/// A function that isn't defined in the module and that a call can reach: one of the C library, one of POSIX threads,
+/// or an intrinsic of LLVM. The intrinsics on bits and with overflow stand once for each width in bits, 1 to 128.
+#[derive(Clone, Copy, Debug, PartialEq, Eq)]
+pub enum Lib {
+    Malloc,
+    Calloc,
+    Free,
+    Realloc,
+    Memcpy,
+    Memmove,
+    Memset,
+    LlvmMemcpy,
+    LlvmMemmove,
+    LlvmMemset,
+    Memcmp,
+    Strlen,
+    Puts,
+    Putchar,
+    Getchar,
+    Exit,
+    Abort,
+    LlvmTrap,
+    PthreadCreate,
+    PthreadJoin,
+    MutexInit,
+    MutexLock,
+    MutexUnlock,
+    MutexDestroy,
+    LifetimeStart,
+    LifetimeEnd,
+    Assume,
+    Bits { op: BitOp, width: u32 },
+    Overflow { op: OverOp, width: u32 },
+}
