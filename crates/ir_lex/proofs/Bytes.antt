@@ -2,7 +2,7 @@
 use Rattle.std.proofs.Common.{◌≡◌, ℕ, true, false, arith, eqb}
 use Rattle.std.proofs.lemmas.Bool.Decides.{nat_tests}
 use Rattle.std.specs.Char.{is_ascii_digit}
-use Rattle.ir_core.specs.Spelling.{begins_word, begins_name, is_name_byte, is_point, is_float_byte, is_mark, quote, colon, minus}
+use Rattle.ir_core.specs.Spelling.{begins_word, begins_name, is_name_byte, is_point, is_float_byte, is_mark, quote, colon}
 use Rattle.ir_core.specs.Tokenisation.{is_separator}
 
 pub name-from_word : (b : ℕ) → begins_word b ≡ true → is_name_byte b ≡ true
@@ -31,9 +31,6 @@ word-from_digit b h = grind (arith, nat_tests)
 
 pub digit-from_begins : (b : ℕ) → begins_name b ≡ true → is_ascii_digit b ≡ false
 digit-from_begins b h = grind (arith, nat_tests)
-
-pub minus-from_digit : (b : ℕ) → is_ascii_digit b ≡ true → (eqb b minus) ≡ false
-minus-from_digit b h = grind (arith, nat_tests)
 
 pub colon-from_float : (b : ℕ) → is_float_byte b ≡ true → (eqb b colon) ≡ false
 colon-from_float b h = grind (arith, nat_tests)

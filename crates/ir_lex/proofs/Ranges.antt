@@ -1,11 +1,10 @@
 -- The number that an integer's digits write, against a limit.
-use Rattle.std.proofs.Common.{◌≡◌, ℕ, ◌+◌, ◌-◌, ◌*◌, ◌<◌, ◌≤◌, List, ◌∷◌, true, false, length, get_or, take, drop, arith, refl, sym, ap, subst, inl, inr, ◌⊎◌, leb}
+use Rattle.std.proofs.Common.{◌≡◌, ℕ, ◌+◌, ◌-◌, ◌*◌, ◌<◌, ◌≤◌, List, ◌∷◌, true, false, length, get_or, take, drop, arith, refl, sym, subst, inl, inr, ◌⊎◌, leb}
 use Rattle.std.specs.List.{AllPass}
 use Rattle.std.specs.Char.{is_ascii_digit, digit_value}
 use Rattle.std.specs.Str.Parse.{digits_value}
-use Rattle.std.proofs.lemmas.Bool.{lt-leb, le-leb}
+use Rattle.std.proofs.lemmas.Bool.{lt-leb}
 use Rattle.std.proofs.lemmas.Bool.Decides.{nat_tests}
-use Rattle.std.proofs.lemmas.List.{take_all}
 use Rattle.std.proofs.lemmas.Int.Digits.{digits_value_more}
 use Rattle.std.proofs.lemmas.Str.Parse.{digits_value-take-le}
 use Rattle.ir_core.specs.Spelling.{Spells, IsDigits, minus}
@@ -30,10 +29,6 @@ value_past digits i value limit all inside e past =
     let more : digits_value 10 (take (i + 1) digits) ≤ digits_value 10 digits = digits_value-take-le 10 digits (i + 1) (omega arith) in
     lt-leb (digits_value 10 digits) limit (omega arith)
 
--- all of them are within it
-pub value_within : (digits : List ℕ) (i value limit : ℕ) → length digits ≤ i → value ≡ digits_value 10 (take i digits) → value ≤ limit → leb (digits_value 10 digits) limit ≡ true
-value_within digits i value limit past e within = let whole : digits_value 10 (take i digits) ≡ digits_value 10 digits = ap (digits_value 10) (take_all i digits past) in le-leb (digits_value 10 digits) limit (omega arith)
-
 -- an integer is digits, behind a minus or not
 integer_parts : (s : List ℕ) → Spells Integer s → IsDigits s ⊎ ((bytes : List ℕ) × (s ≡ minus ∷ bytes) × IsDigits bytes)
 integer_parts _ (integer s h) = inl h
@@ -44,11 +39,4 @@ digits_behind_minus s h first =
     elim (integer_parts s h) [
       | inl digits ↦ let d = (digit_at s 0 digits.digits digits.some).2 in absurd (omega arith)
       | inr parts ↦ subst (λ x. AllPass is_ascii_digit (drop 1 x)) (sym parts.1) parts.2.digits
-    ]
-
-pub digits_alone : (s : List ℕ) → Spells Integer s → (get_or s 0 0 ≡ minus → ⊥) → AllPass is_ascii_digit s
-digits_alone s h other =
-    elim (integer_parts s h) [
-      | inl digits ↦ digits.digits
-      | inr parts ↦ absurd (other (ap (λ x. get_or x 0 0) parts.1))
     ]

@@ -13,10 +13,6 @@ use Rattle.ir_lex.specs.Gaps.{gap_length}
 use Rattle.ir_lex.proofs.GapLaws.{gap_stops, gap_ends}
 use Rattle.ir_lex.proofs.Cuts.{token_some}
 
--- a token that begins what is left of a text, with its place
-token_at : (text : List ℕ) (at : ℕ) → Found → Token
-token_at text at found = record { kind = found.kind; from = at; to = at + found.len; place = place_after (take at text) }
-
 -- the token at the front of what is left is one of the text
 pub front_token : (text : List ℕ) (at : ℕ) (found : Found) (t : Token) → at ≤ length text → IsFront (drop at text) found → t.kind ≡ found.kind → t.from ≡ at → t.to ≡ at + found.len → t.place ≡ place_after (take at text) → IsToken text t
 front_token text at found t inside f kind from to place =

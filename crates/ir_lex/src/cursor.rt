@@ -40,13 +40,6 @@ impl<'a> Cursor<'a> {
         }
     }
 
-    /// The offset of the next byte.
-    pub(crate) fn at(&self) -> usize
-        ensures { result ≡ self.now.at }
-    {
-        self.at
-    }
-
     /// The place of the next byte.
     pub(crate) fn place(&self) -> Place
         ensures { result ≡ place_after (take self.now.at self.now.text.now) }
