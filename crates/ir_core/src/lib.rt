@@ -3,6 +3,7 @@
 //! these types and answer these refusals; the checks and runs above them read the module.
 #![tactic(auto)]
 
+mod all_layouts;
 mod faults;
 mod ir_module;
 mod lib_functions;
@@ -13,8 +14,10 @@ mod operations;
 mod refusals;
 mod token;
 mod token_list;
+mod type_layouts;
 mod types;
 
+pub use all_layouts::layouts;
 pub use faults::{Fault, Limit};
 pub use ir_module::{
     Block, BlockList, DbgRef, Declare, DeclareList, Function, FunctionList, GlobalList, GlobalVar,
