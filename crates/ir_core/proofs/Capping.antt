@@ -79,7 +79,7 @@ pub layout_at-capped : (layouts : List TypeLayout) (n : ℕ) → layout_at (map 
 layout_at-capped layouts n = get_or-map capped layouts n Loop
 
 -- the fields from some on, in a list whose layouts are capped
-fold-capped : (packed : Bool) (layouts : List TypeLayout) (a b : TypeLayout) (ns : List ℕ) → capped a ≡ capped b → capped (fold (with_field packed) a (map (layout_at (map capped layouts)) ns)) ≡ capped (fold (with_field packed) b (map (layout_at layouts) ns))
+pub fold-capped : (packed : Bool) (layouts : List TypeLayout) (a b : TypeLayout) (ns : List ℕ) → capped a ≡ capped b → capped (fold (with_field packed) a (map (layout_at (map capped layouts)) ns)) ≡ capped (fold (with_field packed) b (map (layout_at layouts) ns))
 fold-capped packed layouts a b [] e = e
 fold-capped packed layouts a b (n ∷ ns) e =
     fold-capped packed layouts (with_field packed a (layout_at (map capped layouts) n)) (with_field packed b (layout_at layouts n)) ns

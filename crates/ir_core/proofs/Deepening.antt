@@ -135,7 +135,7 @@ type_layout_same fields a b (Struct first count packed) all = ap (struct_layout 
 type_layout_same fields a b Opaque all = refl
 type_layout_same fields a b (Pair width) all = refl
 
-length-within : (types : List IrType) (fields : List ℕ) (k : ℕ) → length (layouts_within types fields k) ≡ length types
+pub length-within : (types : List IrType) (fields : List ℕ) (k : ℕ) → length (layouts_within types fields k) ≡ length types
 length-within types fields zero = length-map types (λ _. Loop)
 length-within types fields (suc k) = length-map types (type_layout fields (layouts_within types fields k))
 
@@ -143,7 +143,7 @@ length-within types fields (suc k) = length-map types (type_layout fields (layou
 past_is_loop : (layouts : List TypeLayout) (n : ℕ) → length layouts ≤ n → is_loop (layout_at layouts n) ≡ true
 past_is_loop layouts n h = ap is_loop (get_or_past layouts n Loop h)
 
-laid_is_within : (layouts : List TypeLayout) (n : ℕ) → IsLaid layouts n → n < length layouts
+pub laid_is_within : (layouts : List TypeLayout) (n : ℕ) → IsLaid layouts n → n < length layouts
 laid_is_within layouts n h =
     elim (cases_lt n (length layouts)) [
       | inl less ↦ less
@@ -157,11 +157,11 @@ nothing_at_first types fields n =
       | inr past ↦ let e : length (layouts_within types fields zero) ≡ length types = length-within types fields zero in get_or_past (layouts_within types fields zero) n Loop (omega arith)
     ]
 
-within_more : (types : List IrType) (fields : List ℕ) (k n : ℕ) → n < length types → layout_at (layouts_within types fields (suc k)) n ≡ type_layout fields (layouts_within types fields k) (type_at types n)
+pub within_more : (types : List IrType) (fields : List ℕ) (k n : ℕ) → n < length types → layout_at (layouts_within types fields (suc k)) n ≡ type_layout fields (layouts_within types fields k) (type_at types n)
 within_more types fields k n h = get_or-map (type_layout fields (layouts_within types fields k)) types n Void Loop h
 
 -- what is laid out stays so one type deeper
-deeper : (types : List IrType) (fields : List ℕ) (k n : ℕ) → IsLaid (layouts_within types fields k) n → layout_at (layouts_within types fields (suc k)) n ≡ layout_at (layouts_within types fields k) n
+pub deeper : (types : List IrType) (fields : List ℕ) (k n : ℕ) → IsLaid (layouts_within types fields k) n → layout_at (layouts_within types fields (suc k)) n ≡ layout_at (layouts_within types fields k) n
 deeper types fields zero n h = let no : is_loop (layout_at (layouts_within types fields zero) n) ≡ true = ap is_loop (nothing_at_first types fields n) in cc
 deeper types fields (suc k) n h =
     let inside : n < length types = subst (λ m. n < m) (length-within types fields (suc k)) (laid_is_within (layouts_within types fields (suc k)) n h) in

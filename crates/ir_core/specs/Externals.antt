@@ -1,7 +1,7 @@
 -- The names of the functions that a module may declare and call without defining them: those of the C library and of
 -- POSIX threads (ISO C, "Library"; POSIX, "pthread.h"), and the intrinsics of LLVM (LLVM Language Reference, "Intrinsic
 -- Functions"). Which of them there are is this project's choice.
-use Rattle.std.specs.Prelude.{ℕ, List, ◌++◌, ◌≡◌, ◌≤◌, ◌%◌, codes, decimal}
+use Rattle.std.specs.Prelude.{ℕ, List, [], ◌++◌, ◌≡◌, ◌≤◌, ◌%◌, codes, decimal}
 use Rattle.hw_base.specs.declared.operators.BitOp.{BitOp}
 use Rattle.hw_base.specs.declared.operators.BitOp.TheVariants.{BSwap, CtPop, CtLz, CtTz, FShl, FShr, SMin, SMax, UMin, UMax, Abs, Expect}
 use Rattle.hw_base.specs.declared.operators.OverOp.{OverOp}
@@ -9,61 +9,63 @@ use Rattle.hw_base.specs.declared.operators.OverOp.TheVariants.{SAdd, UAdd, SSub
 use Rattle.ir_core.specs.declared.lib_functions.Lib.{Lib}
 use Rattle.ir_core.specs.declared.lib_functions.Lib.TheVariants.{Malloc, Calloc, Free, Realloc, Memcpy, Memmove, Memset, LlvmMemcpy, LlvmMemmove, LlvmMemset, Memcmp, Strlen, Puts, Putchar, Getchar, Exit, Abort, LlvmTrap, PthreadCreate, PthreadJoin, MutexInit, MutexLock, MutexUnlock, MutexDestroy, LifetimeStart, LifetimeEnd, Assume, Bits, Overflow}
 
--- what the name of an intrinsic on bits has before its width
-abbrev pub bit_prefix : BitOp → List ℕ
-bit_prefix BSwap = codes "llvm.bswap.i"
-bit_prefix CtPop = codes "llvm.ctpop.i"
-bit_prefix CtLz = codes "llvm.ctlz.i"
-bit_prefix CtTz = codes "llvm.cttz.i"
-bit_prefix FShl = codes "llvm.fshl.i"
-bit_prefix FShr = codes "llvm.fshr.i"
-bit_prefix SMin = codes "llvm.smin.i"
-bit_prefix SMax = codes "llvm.smax.i"
-bit_prefix UMin = codes "llvm.umin.i"
-bit_prefix UMax = codes "llvm.umax.i"
-bit_prefix Abs = codes "llvm.abs.i"
-bit_prefix Expect = codes "llvm.expect.i"
+-- the name of a function, but for the width at its end
+abbrev pub name_stem : Lib → List ℕ
+name_stem Malloc = codes "malloc"
+name_stem Calloc = codes "calloc"
+name_stem Free = codes "free"
+name_stem Realloc = codes "realloc"
+name_stem Memcpy = codes "memcpy"
+name_stem Memmove = codes "memmove"
+name_stem Memset = codes "memset"
+name_stem LlvmMemcpy = codes "llvm.memcpy.p0.p0.i64"
+name_stem LlvmMemmove = codes "llvm.memmove.p0.p0.i64"
+name_stem LlvmMemset = codes "llvm.memset.p0.i64"
+name_stem Memcmp = codes "memcmp"
+name_stem Strlen = codes "strlen"
+name_stem Puts = codes "puts"
+name_stem Putchar = codes "putchar"
+name_stem Getchar = codes "getchar"
+name_stem Exit = codes "exit"
+name_stem Abort = codes "abort"
+name_stem LlvmTrap = codes "llvm.trap"
+name_stem PthreadCreate = codes "pthread_create"
+name_stem PthreadJoin = codes "pthread_join"
+name_stem MutexInit = codes "pthread_mutex_init"
+name_stem MutexLock = codes "pthread_mutex_lock"
+name_stem MutexUnlock = codes "pthread_mutex_unlock"
+name_stem MutexDestroy = codes "pthread_mutex_destroy"
+name_stem LifetimeStart = codes "llvm.lifetime.start.p0"
+name_stem LifetimeEnd = codes "llvm.lifetime.end.p0"
+name_stem Assume = codes "llvm.assume"
+name_stem (Bits BSwap width) = codes "llvm.bswap.i"
+name_stem (Bits CtPop width) = codes "llvm.ctpop.i"
+name_stem (Bits CtLz width) = codes "llvm.ctlz.i"
+name_stem (Bits CtTz width) = codes "llvm.cttz.i"
+name_stem (Bits FShl width) = codes "llvm.fshl.i"
+name_stem (Bits FShr width) = codes "llvm.fshr.i"
+name_stem (Bits SMin width) = codes "llvm.smin.i"
+name_stem (Bits SMax width) = codes "llvm.smax.i"
+name_stem (Bits UMin width) = codes "llvm.umin.i"
+name_stem (Bits UMax width) = codes "llvm.umax.i"
+name_stem (Bits Abs width) = codes "llvm.abs.i"
+name_stem (Bits Expect width) = codes "llvm.expect.i"
+name_stem (Overflow SAdd width) = codes "llvm.sadd.with.overflow.i"
+name_stem (Overflow UAdd width) = codes "llvm.uadd.with.overflow.i"
+name_stem (Overflow SSub width) = codes "llvm.ssub.with.overflow.i"
+name_stem (Overflow USub width) = codes "llvm.usub.with.overflow.i"
+name_stem (Overflow SMul width) = codes "llvm.smul.with.overflow.i"
+name_stem (Overflow UMul width) = codes "llvm.umul.with.overflow.i"
 
--- what the name of an intrinsic with overflow has before its width
-abbrev pub overflow_prefix : OverOp → List ℕ
-overflow_prefix SAdd = codes "llvm.sadd.with.overflow.i"
-overflow_prefix UAdd = codes "llvm.uadd.with.overflow.i"
-overflow_prefix SSub = codes "llvm.ssub.with.overflow.i"
-overflow_prefix USub = codes "llvm.usub.with.overflow.i"
-overflow_prefix SMul = codes "llvm.smul.with.overflow.i"
-overflow_prefix UMul = codes "llvm.umul.with.overflow.i"
+-- the width at the end of a name, in decimal, where it has one
+abbrev pub width_text : Lib → List ℕ
+width_text (Bits op width) = decimal width
+width_text (Overflow op width) = decimal width
+width_text other = []
 
 -- the name of a function
 abbrev pub lib_name : Lib → List ℕ
-lib_name Malloc = codes "malloc"
-lib_name Calloc = codes "calloc"
-lib_name Free = codes "free"
-lib_name Realloc = codes "realloc"
-lib_name Memcpy = codes "memcpy"
-lib_name Memmove = codes "memmove"
-lib_name Memset = codes "memset"
-lib_name LlvmMemcpy = codes "llvm.memcpy.p0.p0.i64"
-lib_name LlvmMemmove = codes "llvm.memmove.p0.p0.i64"
-lib_name LlvmMemset = codes "llvm.memset.p0.i64"
-lib_name Memcmp = codes "memcmp"
-lib_name Strlen = codes "strlen"
-lib_name Puts = codes "puts"
-lib_name Putchar = codes "putchar"
-lib_name Getchar = codes "getchar"
-lib_name Exit = codes "exit"
-lib_name Abort = codes "abort"
-lib_name LlvmTrap = codes "llvm.trap"
-lib_name PthreadCreate = codes "pthread_create"
-lib_name PthreadJoin = codes "pthread_join"
-lib_name MutexInit = codes "pthread_mutex_init"
-lib_name MutexLock = codes "pthread_mutex_lock"
-lib_name MutexUnlock = codes "pthread_mutex_unlock"
-lib_name MutexDestroy = codes "pthread_mutex_destroy"
-lib_name LifetimeStart = codes "llvm.lifetime.start.p0"
-lib_name LifetimeEnd = codes "llvm.lifetime.end.p0"
-lib_name Assume = codes "llvm.assume"
-lib_name (Bits op width) = bit_prefix op ++ decimal width
-lib_name (Overflow op width) = overflow_prefix op ++ decimal width
+lib_name lib = name_stem lib ++ width_text lib
 
 -- a width of an integer in bits, as it is accepted
 pub record IsWidth (width : ℕ) : Type 0 where
@@ -80,3 +82,9 @@ abbrev pub IsThere : Lib → Type 0
 IsThere (Bits op width) = IsWidth width × HasPairs op width
 IsThere (Overflow op width) = IsWidth width
 IsThere other = Unit {0}
+
+-- all functions whose names differ in the width alone, by the one of width 0
+abbrev pub family : Lib → Lib
+family (Bits op width) = Bits op 0
+family (Overflow op width) = Overflow op 0
+family other = other
