@@ -1,7 +1,7 @@
 -- Small modules as values, on which the definitions of runs are shown by evaluation. Above each stands its text, in the
 -- syntax of the LLVM Language Reference; the modules are this project's choice. All of them share one list of types, and
 -- no place in them means anything.
-use Rattle.std.specs.Prelude.{ℕ, ◌-◌, ◌^◌, Bool, true, false, List, [], ◌∷◌, Option, Some, None, codes}
+use Rattle.std.specs.Prelude.{ℕ, ◌-◌, ◌^◌, true, false, List, [], ◌∷◌, Option, Some, None, codes}
 use Rattle.hw_base.specs.declared.operators.BinOp.TheVariants.{SDiv}
 use Rattle.hw_base.specs.declared.operators.CastOp.TheVariants.{ZExt}
 use Rattle.ir_core.specs.declared.refusals.Place.{Place}
