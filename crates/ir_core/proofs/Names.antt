@@ -1,5 +1,5 @@
 -- The names of outside functions, family by family.
-use Rattle.std.proofs.Common.{◌≡◌, ◌≢◌, ℕ, ◌+◌, ◌-◌, ◌^◌, ◌<◌, ◌≤◌, ◌++◌, Bool, true, false, List, [], ◌∷◌, length, get_or, arith, refl, sym, ◌∙◌, ap, subst, decimal, IsTrue, eqb, lit<, Option, Some, None, MatchOption}
+use Rattle.std.proofs.Common.{◌≡◌, ◌≢◌, ℕ, ◌<◌, ◌≤◌, ◌++◌, Bool, List, get_or, arith, refl, sym, ◌∙◌, ap, subst, decimal, IsTrue, eqb, lit<, Option, Some, None, MatchOption}
 use Rattle.std.specs.Cmp.Lexicographic.{pointwise}
 use Rattle.std.proofs.lemmas.List.{append_cancel_left}
 use Rattle.std.proofs.lemmas.Fmt.{decimal_injective}
@@ -7,7 +7,6 @@ use Rattle.std.proofs.lemmas.Slice.Eq.{slice_eq-Decides}
 use Rattle.std.proofs.lemmas.Bool.Decides.{Decides-eqb}
 use Rattle.hw_base.specs.declared.operators.BitOp.{BitOp}
 use Rattle.hw_base.specs.declared.operators.BitOp.TheVariants.{BSwap, CtPop, CtLz, CtTz, FShl, FShr, SMin, SMax, UMin, UMax, Abs, Expect}
-use Rattle.hw_base.specs.declared.operators.OverOp.{OverOp}
 use Rattle.hw_base.specs.declared.operators.OverOp.TheVariants.{SAdd, UAdd, SSub, USub, SMul, UMul}
 use Rattle.ir_core.specs.declared.externals.TheConstants.{FAMILIES}
 use Rattle.ir_core.specs.declared.lib_functions.Lib.{Lib}

@@ -1,15 +1,15 @@
 -- Where a field begins is the same by capped layouts and by exact ones, where the struct is small.
-use Rattle.std.proofs.Common.{◌≡◌, ℕ, ◌+◌, ◌-◌, ◌^◌, ◌<◌, ◌≤◌, suc, min, max, Bool, true, false, List, [], ◌∷◌, ◌++◌, map, fold, length, get_or, take, drop, slice_get, Some, arith, refl, sym, ◌∙◌, ap, ap₂, subst}
+use Rattle.std.proofs.Common.{◌≡◌, ℕ, ◌-◌, ◌^◌, ◌<◌, ◌≤◌, suc, min, Bool, true, false, List, [], ◌∷◌, ◌++◌, map, fold, length, get_or, take, drop, slice_get, Some, arith, refl, sym, ◌∙◌, ap, ap₂}
 use Rattle.std.proofs.lemmas.List.{map-append, get_or-map, take-append-drop, take-map}
 use Rattle.std.proofs.lemmas.List.Sums.{fold-append}
 use Rattle.std.proofs.lemmas.Option.{get_or_from_slice_get, slice_get_within}
 use Rattle.std.proofs.Math.Seq.{drop-cons}
 use Rattle.ir_core.proofs.Capping.{fold-capped, layout_at-capped}
-use Rattle.ir_core.proofs.Deepening.{within_more, deeper, length-within}
-use Rattle.ir_core.specs.Layout.{padding, field_align, field_start, with_field, fields_layout, rounded, struct_layout, layout_at, capped, type_layout, field_types, layouts_within, layouts_of, exact_layouts, is_known, layout_size, layout_align, offset_in, field_offset_of, field_offset_by}
+use Rattle.ir_core.proofs.Deepening.{within_more, deeper}
+use Rattle.ir_core.specs.Layout.{field_start, with_field, fields_layout, rounded, struct_layout, layout_at, capped, type_layout, field_types, layouts_of, exact_layouts, is_known, layout_size, layout_align, offset_in, field_offset_of, field_offset_by}
 use Rattle.ir_core.specs.Progress.{is_loop, type_at}
 use Rattle.ir_core.specs.declared.types.IrType.{IrType}
-use Rattle.ir_core.specs.declared.types.IrType.TheVariants.{Void, Int, Ptr, Array, Struct, Opaque, Pair}
+use Rattle.ir_core.specs.declared.types.IrType.TheVariants.{Void, Struct}
 use Rattle.ir_core.specs.declared.types.TypeLayout.{TypeLayout}
 use Rattle.ir_core.specs.declared.types.TypeLayout.TheVariants.{Known, NoSize, Loop}
 
@@ -77,7 +77,7 @@ field_begins packed layouts ns k h known =
     let cut : take k ns ++ (n ∷ drop (suc k) ns) ≡ ns = ap (λ r. take k ns ++ r) (sym (drop-cons ns k 0 h)) ∙ take-append-drop k ns in
     let split : map f ns ≡ map f (take k ns) ++ (f n ∷ rest) = sym (ap (map f) cut) ∙ map-append f (take k ns) (n ∷ drop (suc k) ns) in
     let folded : whole ≡ fold (with_field packed) (with_field packed so_far (f n)) rest =
-        ap (fields_layout packed) split ∙ fold-append (with_field packed) (Known 0 1) (map f (take k ns)) (f n ∷ rest) in
+    ap (fields_layout packed) split ∙ fold-append (with_field packed) (Known 0 1) (map f (take k ns)) (f n ∷ rest) in
     let outer = rounded_grows whole known in
     let outer_size : layout_size whole ≤ layout_size (rounded whole) = outer.1 in
     let inner = fold_grows packed (with_field packed so_far (f n)) rest (sym (ap is_known folded) ∙ outer.0) in
@@ -96,7 +96,7 @@ field_offset_kept types fields ty k first count packed layouts ns r struct laid 
     let there : ty < length types = slice_get_within types ty (Struct first count packed) struct in
     let t : type_at types ty ≡ Struct first count packed = get_or_from_slice_get types ty (Struct first count packed) Void struct in
     let whole : layout_at exact ty ≡ struct_layout packed (map f ns) =
-        exact_layout types fields ty there (laid_known (layout_at exact ty) known) ∙ (ap (type_layout fields exact) t ∙ ap (λ m. struct_layout packed (map f m)) (sym numbers)) in
+    exact_layout types fields ty there (laid_known (layout_at exact ty) known) ∙ (ap (type_layout fields exact) t ∙ ap (λ m. struct_layout packed (map f m)) (sym numbers)) in
     let b = field_begins packed exact ns k inside (sym (ap is_known whole) ∙ known) in
     let size : layout_size (struct_layout packed (map f ns)) ≡ layout_size (layout_at exact ty) = ap layout_size (sym whole) in
     let so_far : TypeLayout = fields_layout packed (map f (take k ns)) in
@@ -104,12 +104,12 @@ field_offset_kept types fields ty k first count packed layouts ns r struct laid 
     let before : layout_size so_far ≤ layout_size (struct_layout packed (map f ns)) = b.before in
     let begins : field_start packed (layout_size so_far) align ≤ layout_size (struct_layout packed (map f ns)) = b.begins in
     let kept_size : layout_size (capped (fields_layout packed (map (layout_at layouts) (take k ns)))) ≡ layout_size so_far =
-        ap (λ ls. layout_size (capped (fields_layout packed (map (layout_at ls) (take k ns))))) laid
-        ∙ (ap layout_size (fold-capped packed exact (Known 0 1) (Known 0 1) (take k ns) refl) ∙ layout_size-capped so_far (omega arith)) in
+    ap (λ ls. layout_size (capped (fields_layout packed (map (layout_at ls) (take k ns))))) laid
+    ∙ (ap layout_size (fold-capped packed exact (Known 0 1) (Known 0 1) (take k ns) refl) ∙ layout_size-capped so_far (omega arith)) in
     let kept_align : layout_align (layout_at layouts (get_or ns k 0)) ≡ align =
-        ap (λ ls. layout_align (layout_at ls (get_or ns k 0))) laid ∙ (ap layout_align (layout_at-capped exact (get_or ns k 0)) ∙ layout_align-capped (f (get_or ns k 0))) in
+    ap (λ ls. layout_align (layout_at ls (get_or ns k 0))) laid ∙ (ap layout_align (layout_at-capped exact (get_or ns k 0)) ∙ layout_align-capped (f (get_or ns k 0))) in
     let start : r ≡ min (field_start packed (layout_size so_far) align) (2 ^ 64 - 1) = made ∙ ap₂ (λ a b. min (field_start packed a b) (2 ^ 64 - 1)) kept_size kept_align in
     let exact_start : r ≡ field_start packed (layout_size so_far) align = omega arith in
     let offset : offset_in packed (map f ns) k ≡ field_start packed (layout_size so_far) align =
-        ap₂ (λ ls l. field_start packed (layout_size (fields_layout packed ls)) (layout_align l)) (take-map f k ns) (get_or-map f ns k 0 Loop inside) in
+    ap₂ (λ ls l. field_start packed (layout_size (fields_layout packed ls)) (layout_align l)) (take-map f k ns) (get_or-map f ns k 0 Loop inside) in
     exact_start ∙ (sym offset ∙ (ap (λ m. offset_in packed (map f m) k) numbers ∙ ap (λ o. field_offset_by fields exact o k) (sym struct)))

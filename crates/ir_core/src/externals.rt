@@ -33,24 +33,78 @@ const FAMILIES: [Lib; 45] = [
     Lib::LifetimeStart,
     Lib::LifetimeEnd,
     Lib::Assume,
-    Lib::Bits { op: BitOp::BSwap, width: 0 },
-    Lib::Bits { op: BitOp::CtPop, width: 0 },
-    Lib::Bits { op: BitOp::CtLz, width: 0 },
-    Lib::Bits { op: BitOp::CtTz, width: 0 },
-    Lib::Bits { op: BitOp::FShl, width: 0 },
-    Lib::Bits { op: BitOp::FShr, width: 0 },
-    Lib::Bits { op: BitOp::SMin, width: 0 },
-    Lib::Bits { op: BitOp::SMax, width: 0 },
-    Lib::Bits { op: BitOp::UMin, width: 0 },
-    Lib::Bits { op: BitOp::UMax, width: 0 },
-    Lib::Bits { op: BitOp::Abs, width: 0 },
-    Lib::Bits { op: BitOp::Expect, width: 0 },
-    Lib::Overflow { op: OverOp::SAdd, width: 0 },
-    Lib::Overflow { op: OverOp::UAdd, width: 0 },
-    Lib::Overflow { op: OverOp::SSub, width: 0 },
-    Lib::Overflow { op: OverOp::USub, width: 0 },
-    Lib::Overflow { op: OverOp::SMul, width: 0 },
-    Lib::Overflow { op: OverOp::UMul, width: 0 },
+    Lib::Bits {
+        op: BitOp::BSwap,
+        width: 0,
+    },
+    Lib::Bits {
+        op: BitOp::CtPop,
+        width: 0,
+    },
+    Lib::Bits {
+        op: BitOp::CtLz,
+        width: 0,
+    },
+    Lib::Bits {
+        op: BitOp::CtTz,
+        width: 0,
+    },
+    Lib::Bits {
+        op: BitOp::FShl,
+        width: 0,
+    },
+    Lib::Bits {
+        op: BitOp::FShr,
+        width: 0,
+    },
+    Lib::Bits {
+        op: BitOp::SMin,
+        width: 0,
+    },
+    Lib::Bits {
+        op: BitOp::SMax,
+        width: 0,
+    },
+    Lib::Bits {
+        op: BitOp::UMin,
+        width: 0,
+    },
+    Lib::Bits {
+        op: BitOp::UMax,
+        width: 0,
+    },
+    Lib::Bits {
+        op: BitOp::Abs,
+        width: 0,
+    },
+    Lib::Bits {
+        op: BitOp::Expect,
+        width: 0,
+    },
+    Lib::Overflow {
+        op: OverOp::SAdd,
+        width: 0,
+    },
+    Lib::Overflow {
+        op: OverOp::UAdd,
+        width: 0,
+    },
+    Lib::Overflow {
+        op: OverOp::SSub,
+        width: 0,
+    },
+    Lib::Overflow {
+        op: OverOp::USub,
+        width: 0,
+    },
+    Lib::Overflow {
+        op: OverOp::SMul,
+        width: 0,
+    },
+    Lib::Overflow {
+        op: OverOp::UMul,
+        width: 0,
+    },
 ];
 
 /// The function that a declared name means, or none exactly where it is no name of one. Widths in names are 1 to 128
@@ -97,13 +151,7 @@ fn with_width(known: Lib, rest: &[u8]) -> Option<Lib>
             Some(width) => Some(Lib::Overflow { op, width }),
             None => None,
         },
-        other => {
-            if rest.is_empty() {
-                Some(other)
-            } else {
-                None
-            }
-        }
+        other => { if rest.is_empty() { Some(other) } else { None } }
     }
 }
 

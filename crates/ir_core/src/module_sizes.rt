@@ -97,11 +97,13 @@ impl Module {
         ensures { result ≡ field_offset_of self.now.types self.now.fields ty field }
     {
         match self.types.get(ty as u64) {
-            Some(IrType::Struct {
-                first,
-                count,
-                packed,
-            }) => {
+            Some(
+                IrType::Struct {
+                    first,
+                    count,
+                    packed,
+                },
+            ) => {
                 let types = field_types(self.fields.as_slice(), first, count);
                 offset_in(packed, self.layouts.as_slice(), types, field as usize)
             }

@@ -1,6 +1,10 @@
 use super::*;
 use std::test::Fail;
 
+mod function_names;
+mod layout_table;
+mod long_chains;
+
 #[test]
 fn a_refusal_is_printed_with_code_name_and_place(rt: HostRuntime) -> Result<(), Fail> {
     let table = [

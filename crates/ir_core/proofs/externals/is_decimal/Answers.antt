@@ -1,5 +1,4 @@
-use Rattle.std.proofs.Common.{◌≡◌, ◌∙◌, ap, sym, arith, decimal, ◌∷◌, [], ◌+◌, ◌%◌, eqb}
-use Rattle.std.specs.Cmp.Lexicographic.{pointwise}
+use Rattle.std.proofs.Common.{◌≡◌, ◌∙◌, ap, sym, arith, ◌∷◌, [], ◌+◌, ◌%◌}
 use Rattle.std.proofs.lemmas.Fmt.{decimal_digit}
 use Rattle.ir_core.proofs.Decimals.{decimal_two, decimal_three}
 use Rattle.ir_core.proofs.Names.{decimal_told}

@@ -10,7 +10,7 @@ returns-in-Some-Struct c =
     let fields = c.args.self.now.fields in
     let struct : slice_get types c.args.ty ≡ Some (Struct c.in-Some-Struct.first c.in-Some-Struct.count c.in-Some-Struct.packed) = sym c.in-Some-Struct.ensures ∙ ap Some c.in-Some-Struct.field-0-is in
     let numbers : c.field_types-types.result.now ≡ field_types fields c.in-Some-Struct.first c.in-Some-Struct.count =
-        c.field_types-types.ensures ∙ ap (λ fs. field_types fs c.in-Some-Struct.first c.in-Some-Struct.count) c.as_slice.ensures in
+    c.field_types-types.ensures ∙ ap (λ fs. field_types fs c.in-Some-Struct.first c.in-Some-Struct.count) c.as_slice.ensures in
     let there : c.args.field < length (field_types fields c.in-Some-Struct.first c.in-Some-Struct.count) = subst (λ o. IsField fields o c.args.field) struct c.requires.is_field in
     let inside : c.args.field < length c.field_types-types.result.now = subst (λ m. c.args.field < length m) (sym numbers) there in
     field_offset_kept types fields c.args.ty c.args.field c.in-Some-Struct.first c.in-Some-Struct.count c.in-Some-Struct.packed c.as_slice-in-Some-Struct.result.now c.field_types-types.result.now c.offset_in.result
