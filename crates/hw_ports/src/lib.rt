@@ -24,3 +24,6 @@ pub use no_fault_source::NoFaultSource;
 pub use ports::{Failed, FileError, FileText, Files, Sink, Source};
 pub use real_files::RealFiles;
 pub use real_streams::{RealIn, RealOut};
+
+#[cfg(test)]
+mod tests;
