@@ -1,7 +1,7 @@
 -- Small modules as values, on which the definitions of runs are shown by evaluation. Above each stands its text, in the
 -- syntax of the LLVM Language Reference; the modules are this project's choice. All of them share one list of types, and
 -- no place in them means anything.
-use Rattle.std.specs.Prelude.{ℕ, ◌-◌, ◌^◌, true, false, List, [], ◌∷◌, Option, Some, None, codes}
+use Rattle.std.specs.Prelude.{ℕ, ◌-◌, ◌^◌, true, false, List, [], ◌∷◌, Some, None, codes}
 use Rattle.hw_base.specs.declared.operators.BinOp.TheVariants.{SDiv}
 use Rattle.hw_base.specs.declared.operators.CastOp.TheVariants.{ZExt}
 use Rattle.ir_core.specs.declared.refusals.Place.{Place}
@@ -12,14 +12,12 @@ use Rattle.ir_core.specs.declared.types.TypeLayout.TheVariants.{Known, NoSize}
 use Rattle.ir_core.specs.declared.operands.Operand.{Operand}
 use Rattle.ir_core.specs.declared.operands.Operand.TheVariants.{Reg, Int as Literal, Null, Global}
 use Rattle.ir_core.specs.declared.operands.Placed.{Placed}
-use Rattle.ir_core.specs.declared.operands.StartArg.{StartArg}
 use Rattle.ir_core.specs.declared.operations.Op.{Op}
 use Rattle.ir_core.specs.declared.operations.Op.TheVariants.{Binary, Cast, Alloca, Load, Store, Gep, Call, CallLib, Ret, Unreachable}
 use Rattle.ir_core.specs.declared.lib_functions.Lib.{Lib}
 use Rattle.ir_core.specs.declared.lib_functions.Lib.TheVariants.{Malloc, Free, Putchar, PthreadCreate}
 use Rattle.ir_core.specs.declared.ir_module.GlobalVar.{GlobalVar}
 use Rattle.ir_core.specs.declared.ir_module.Inst.{Inst}
-use Rattle.ir_core.specs.declared.ir_module.Block.{Block}
 use Rattle.ir_core.specs.declared.ir_module.Function.{Function}
 use Rattle.ir_core.specs.declared.ir_module.Declare.{Declare}
 use Rattle.ir_core.specs.declared.ir_module.Module.{Module}

@@ -1,11 +1,11 @@
 pub mod Blocks
 pub mod Examples
+pub mod Externals
 pub mod Faults
+pub mod Layout
+pub mod Progress
 pub mod Refusals
+pub mod Resolved
 pub mod Spelling
 pub mod Tokenisation
 pub mod Tokens
-pub mod Layout
-pub mod Externals
-pub mod Resolved
-pub mod Progress
