@@ -35,8 +35,8 @@ keeps_changed f births n keeping o x e dead = by_birth (slice_get births o.birth
     by_birth None here found = cc
     by_birth (Some birth) here found =
         elim (slice_get-changed_at f births n o.birth birth here) [
-          inl same ↦ ap (λ b. object_in b o.index) same ∙ found
-        | inr changed ↦ ap (λ b. object_in b o.index) changed ∙ keeping birth o.index x found dead
+          | inl same ↦ ap (λ b. object_in b o.index) same ∙ found
+          | inr changed ↦ ap (λ b. object_in b o.index) changed ∙ keeping birth o.index x found dead
         ]
 
 -- ---- a new birth
@@ -81,8 +81,8 @@ written_birth-keeping : (index off : ℕ) (bytes : List SourceByte) → IsKeepin
 unfolding IsKeeping
 written_birth-keeping index off bytes birth k x e dead =
     elim (slice_get-changed_at (written_object off bytes) birth.objects index k x e) [
-      inl same ↦ same
-    | inr changed ↦ changed ∙ ap (λ y. Some y) (written_object-dead off bytes x dead)
+      | inl same ↦ same
+      | inr changed ↦ changed ∙ ap (λ y. Some y) (written_object-dead off bytes x dead)
     ]
 
 pub keeps_written : (births : List Birth) (base : Base) (off : ℕ) (bytes : List SourceByte) → KeepsDead births (put_bytes births base off bytes)

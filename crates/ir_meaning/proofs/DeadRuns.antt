@@ -76,7 +76,7 @@ operation_step-keeps program input f s result op.Unreachable = each.unreachable_
 pub source_step-keeps : (program : Module) (input : List ℕ) (s : SeenState) → EndKeeps s.births (source_step program input s)
 source_step-keeps program input s =
     with_named-keeps s.births (slice_get program.functions s.frame.func) _ (λ f.
-      with_named-keeps s.births (slice_get f.insts s.frame.inst) _ (λ i. operation_step-keeps program input f s i.result i.op))
+    with_named-keeps s.births (slice_get f.insts s.frame.inst) _ (λ i. operation_step-keeps program input f s i.result i.op))
 
 -- ---- the run
 

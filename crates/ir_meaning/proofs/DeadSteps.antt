@@ -118,8 +118,8 @@ with_inner-keeps births program registers (Array count item) (index ∷ indices)
     with_integer-keeps births _ _ (λ n. with_inner-keeps births program registers (type_at program.types item) indices _ go h)
 with_inner-keeps births program registers (Struct first count packed) (index ∷ indices) off go h =
     with_inner-keeps births program registers
-      (type_at program.types (slice_index program.fields (first + constant_number index.operand)))
-      indices _ go h
+    (type_at program.types (slice_index program.fields (first + constant_number index.operand)))
+    indices _ go h
 with_inner-keeps births program registers Opaque (index ∷ indices) off go h = tt
 with_inner-keeps births program registers (Pair width) (index ∷ indices) off go h = tt
 
@@ -139,26 +139,26 @@ pub load_step-keeps : (s : SeenState) (result : Option ℕ) (type : IrType) (ali
 unfolding load_step
 load_step-keeps s result type align at =
     with_pointer-keeps s.births at _ (λ base off.
-      on_answer-keeps s.births s _ base off _ _ _ (on_read-keeps s.births s _ _ (λ v. keeps_same s.births)))
+    on_answer-keeps s.births s _ base off _ _ _ (on_read-keeps s.births s _ _ (λ v. keeps_same s.births)))
 
 pub store_step-keeps : (s : SeenState) (type : IrType) (align : ℕ) (value at : Option Value) → EndKeeps s.births (store_step s type align value at)
 unfolding store_step
 store_step-keeps s type align value at =
     with_value-keeps s.births value _ (λ v. with_pointer-keeps s.births at _ (λ base off.
-      on_answer-keeps s.births s _ base off _ _ _ (keeps_written s.births base off _)))
+    on_answer-keeps s.births s _ base off _ _ _ (keeps_written s.births base off _)))
 
 pub rmw_step-keeps : (s : SeenState) (result : Option ℕ) (op : RmwOp) (type : IrType) (align : ℕ) (at value : Option Value) → EndKeeps s.births (rmw_step s result op type align at value)
 unfolding rmw_step
 rmw_step-keeps s result op type align at value =
     with_pointer-keeps s.births at _ (λ base off. with_integer-keeps s.births value _ (λ operand.
-      on_answer-keeps s.births s _ base off _ _ _ (on_integer-keeps s.births s _ _ (λ old. keeps_written s.births base off _))))
+    on_answer-keeps s.births s _ base off _ _ _ (on_integer-keeps s.births s _ _ (λ old. keeps_written s.births base off _))))
 
 pub cmpxchg_step-keeps : (s : SeenState) (result : Option ℕ) (type : IrType) (align : ℕ) (at expected new : Option Value) → EndKeeps s.births (cmpxchg_step s result type align at expected new)
 unfolding cmpxchg_step
 cmpxchg_step-keeps s result type align at expected new =
     with_pointer-keeps s.births at _ (λ base off. with_integer-keeps s.births expected _ (λ wanted. with_integer-keeps s.births new _ (λ replacement.
-      on_answer-keeps s.births s _ base off _ _ _ (on_integer-keeps s.births s _ _ (λ old.
-        if-keeps s.births (old == wanted) _ _ (keeps_written s.births base off _) (keeps_same s.births))))))
+    on_answer-keeps s.births s _ base off _ _ _ (on_integer-keeps s.births s _ _ (λ old.
+    if-keeps s.births (old == wanted) _ _ (keeps_written s.births base off _) (keeps_same s.births))))))
 
 -- ---- control
 
@@ -171,7 +171,7 @@ with_phis-keeps births types before from (phi ∷ phis) after go h =
 goes_to-keeps : (program : Module) (f : Function) (s : SeenState) (target : ℕ) → EndKeeps s.births (goes_to program f s target)
 goes_to-keeps program f s target =
     with_named-keeps s.births (slice_get f.blocks target) _ (λ block.
-      with_phis-keeps s.births program.types s.frame.registers _ _ s.frame.registers _ (λ registers. keeps_same s.births))
+    with_phis-keeps s.births program.types s.frame.registers _ _ s.frame.registers _ (λ registers. keeps_same s.births))
 
 pub br_step-keeps : (program : Module) (f : Function) (s : SeenState) (target : ℕ) → EndKeeps s.births (br_step program f s target)
 unfolding br_step
@@ -197,7 +197,7 @@ pub call_step-keeps : (program : Module) (s : SeenState) (result : Option ℕ) (
 unfolding call_step
 call_step-keeps program s result func arguments =
     with_named-keeps s.births _ _ (λ f. with_values-keeps s.births arguments _ (λ values.
-      if-keeps s.births (nat_le 4096 (suc (length s.callers))) _ _ tt (entry_of-keeps s.births func s.task _ f.allocas)))
+    if-keeps s.births (nat_le 4096 (suc (length s.callers))) _ _ tt (entry_of-keeps s.births func s.task _ f.allocas)))
 
 births_after-keeps : (s : SeenState) (birth : Option ℕ) → KeepsDead s.births (births_after s birth)
 births_after-keeps s None = keeps_same s.births
@@ -238,15 +238,15 @@ resized-keeps : (s : SeenState) (result : Option ℕ) (base : Base) (size : ℕ)
 resized-keeps s result Null size = keeps_born s.births _
 resized-keeps s result (Object o) size =
     keeps_on s.births (births_with s size) (births_resized s o size) (keeps_born s.births _)
-      (keeps_on (births_with s size) (births_copied s o size) (births_resized s o size)
-        (keeps_written (births_with s size) (Object (block_of (length s.births))) 0 (take size (bytes_in (get_object s.births o))))
-        (keeps_died (births_copied s o size) o.birth s.task (chain_of s)))
+    (keeps_on (births_with s size) (births_copied s o size) (births_resized s o size)
+    (keeps_written (births_with s size) (Object (block_of (length s.births))) 0 (take size (bytes_in (get_object s.births o))))
+    (keeps_died (births_copied s o size) o.birth s.task (chain_of s)))
 
 pub realloc_step-keeps : (s : SeenState) (result : Option ℕ) (values : List (Option Value)) → EndKeeps s.births (realloc_step s result values)
 unfolding realloc_step
 realloc_step-keeps s result values =
     with_pointer-keeps s.births _ _ (λ base off. with_integer-keeps s.births _ _ (λ size.
-      on_answer-keeps s.births s _ base off _ _ _ (resized-keeps s result base size)))
+    on_answer-keeps s.births s _ base off _ _ _ (resized-keeps s result base size)))
 
 -- ---- bytes and strings
 
@@ -254,13 +254,13 @@ pub copy_step-keeps : (s : SeenState) (result : Option ℕ) (values : List (Opti
 unfolding copy_step
 copy_step-keeps s result values =
     with_pointer-keeps s.births _ _ (λ to to_off. with_pointer-keeps s.births _ _ (λ from from_off. with_integer-keeps s.births _ _ (λ count.
-      on_answer-keeps s.births s _ from from_off _ _ _ (on_answer-keeps s.births s _ to to_off _ _ _ (keeps_written s.births to to_off _)))))
+    on_answer-keeps s.births s _ from from_off _ _ _ (on_answer-keeps s.births s _ to to_off _ _ _ (keeps_written s.births to to_off _)))))
 
 pub set_step-keeps : (s : SeenState) (result : Option ℕ) (values : List (Option Value)) → EndKeeps s.births (set_step s result values)
 unfolding set_step
 set_step-keeps s result values =
     with_pointer-keeps s.births _ _ (λ to to_off. with_integer-keeps s.births _ _ (λ byte. with_integer-keeps s.births _ _ (λ count.
-      on_answer-keeps s.births s _ to to_off _ _ _ (keeps_written s.births to to_off _))))
+    on_answer-keeps s.births s _ to to_off _ _ _ (keeps_written s.births to to_off _))))
 
 gives_order-keeps : (s : SeenState) (result : Option ℕ) (xs ys : Option (List ℕ)) → EndKeeps s.births (gives_order s result xs ys)
 gives_order-keeps s result None ys = tt
@@ -271,7 +271,7 @@ pub memcmp_step-keeps : (s : SeenState) (result : Option ℕ) (values : List (Op
 unfolding memcmp_step
 memcmp_step-keeps s result values =
     with_pointer-keeps s.births _ _ (λ a a_off. with_pointer-keeps s.births _ _ (λ b b_off. with_integer-keeps s.births _ _ (λ count.
-      on_answer-keeps s.births s _ a a_off _ _ _ (on_answer-keeps s.births s _ b b_off _ _ _ (gives_order-keeps s result _ _)))))
+    on_answer-keeps s.births s _ a a_off _ _ _ (on_answer-keeps s.births s _ b b_off _ _ _ (gives_order-keeps s result _ _)))))
 
 on_byte-keeps : (births : List Birth) (s : SeenState) (bytes : List SourceByte) (at_end : Unit {0} → StepEnding) (go : ℕ → StepEnding) → EndKeeps births (at_end tt) → ((n : ℕ) → EndKeeps births (go n)) → EndKeeps births (on_byte s bytes at_end go)
 unfolding on_byte
@@ -285,7 +285,7 @@ unfolding with_string_within
 with_string_within-keeps births zero s base off go h = tt
 with_string_within-keeps births (suc tries) s base off go h =
     on_answer-keeps births s _ base off _ _ _
-      (on_byte-keeps births s _ _ _ (h []) (λ n. with_string_within-keeps births tries s base ((off + 1) % 2 ^ 64) (λ ns. go (n ∷ ns)) (λ ns. h (n ∷ ns))))
+    (on_byte-keeps births s _ _ _ (h []) (λ n. with_string_within-keeps births tries s base ((off + 1) % 2 ^ 64) (λ ns. go (n ∷ ns)) (λ ns. h (n ∷ ns))))
 
 pub strlen_step-keeps : (s : SeenState) (result : Option ℕ) (values : List (Option Value)) → EndKeeps s.births (strlen_step s result values)
 unfolding strlen_step
@@ -322,13 +322,13 @@ abort_step-keeps s = tt
 started-keeps : (s : SeenState) (result : Option ℕ) (base : Base) (off : ℕ) (f : Function) (func : ℕ) (value : Value) → EndKeeps s.births (started s result base off f func value)
 started-keeps s result base off f func value =
     if-keeps s.births (nat_le 64 (length s.finished)) _ _ (keeps_same s.births)
-      (keeps_on s.births _ _ (entry_of-keeps s.births func (length s.finished) _ f.allocas) (keeps_written _ base off _))
+    (keeps_on s.births _ _ (entry_of-keeps s.births func (length s.finished) _ f.allocas) (keeps_written _ base off _))
 
 pub create_step-keeps : (program : Module) (s : SeenState) (result : Option ℕ) (values : List (Option Value)) (start : Option StartArg) → EndKeeps s.births (create_step program s result values start)
 unfolding create_step
 create_step-keeps program s result values start =
     with_named-keeps s.births start _ (λ begin. with_named-keeps s.births _ _ (λ f. with_pointer-keeps s.births _ _ (λ base off. with_value-keeps s.births _ _ (λ value.
-      on_answer-keeps s.births s _ base off _ _ _ (started-keeps s result base off f begin.func value)))))
+    on_answer-keeps s.births s _ base off _ _ _ (started-keeps s result base off f begin.func value)))))
 
 joined-keeps : (s : SeenState) (result : Option ℕ) (o : Option Bool) → EndKeeps s.births (joined s result o)
 joined-keeps s result None = keeps_same s.births
@@ -348,13 +348,13 @@ pub mutex_lock_step-keeps : (s : SeenState) (result : Option ℕ) (values : List
 unfolding mutex_lock_step
 mutex_lock_step-keeps s result values =
     with_pointer-keeps s.births _ _ (λ base off. on_answer-keeps s.births s _ base off _ _ _
-      (on_integer-keeps s.births s _ _ (λ word. if-keeps s.births (word == 0) _ _ (keeps_written s.births base off _) tt)))
+    (on_integer-keeps s.births s _ _ (λ word. if-keeps s.births (word == 0) _ _ (keeps_written s.births base off _) tt)))
 
 pub mutex_unlock_step-keeps : (s : SeenState) (result : Option ℕ) (values : List (Option Value)) → EndKeeps s.births (mutex_unlock_step s result values)
 unfolding mutex_unlock_step
 mutex_unlock_step-keeps s result values =
     with_pointer-keeps s.births _ _ (λ base off. on_answer-keeps s.births s _ base off _ _ _
-      (on_integer-keeps s.births s _ _ (λ word. if-keeps s.births (word == s.task + 1) _ _ (keeps_written s.births base off _) (keeps_same s.births))))
+    (on_integer-keeps s.births s _ _ (λ word. if-keeps s.births (word == s.task + 1) _ _ (keeps_written s.births base off _) (keeps_same s.births))))
 
 pub mutex_destroy_step-keeps : (s : SeenState) (result : Option ℕ) → EndKeeps s.births (mutex_destroy_step s result)
 unfolding mutex_destroy_step

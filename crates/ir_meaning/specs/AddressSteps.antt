@@ -37,20 +37,20 @@ alloc_size program ty = layout_size (layout_at program.layouts ty)
 abbrev pub with_index : Module → List (Option Value) → Placed → ℕ → ℕ → (ℕ → StepEnding) → StepEnding
 with_index program registers index ty off go =
     with_integer (operand_value program.types registers index)
-      (λ n. go (off + index_in_64_bits (width_of (type_at program.types index.ty)) n * alloc_size program ty))
+    (λ n. go (off + index_in_64_bits (width_of (type_at program.types index.ty)) n * alloc_size program ty))
 
 -- The indices behind the first one go into the type so far: into an item of an array, or a field of a struct, whose index is a constant.
 unfoldable pub with_inner : Module → List (Option Value) → IrType → List Placed → ℕ → (ℕ → StepEnding) → StepEnding
 with_inner program registers type [] off go = go off
 with_inner program registers (Array count item) (index ∷ indices) off go =
     with_index program registers index item off
-      (λ next. with_inner program registers (type_at program.types item) indices next go)
+    (λ next. with_inner program registers (type_at program.types item) indices next go)
 with_inner program registers (Struct first count packed) (index ∷ indices) off go =
     with_inner program registers
-      (type_at program.types (slice_index program.fields (first + constant_number index.operand)))
-      indices
-      (off + field_offset_by program.fields program.layouts (Some (Struct first count packed)) (constant_number index.operand))
-      go
+    (type_at program.types (slice_index program.fields (first + constant_number index.operand)))
+    indices
+    (off + field_offset_by program.fields program.layouts (Some (Struct first count packed)) (constant_number index.operand))
+    go
 with_inner program registers type (index ∷ indices) off go = Stuck
 
 -- the first index counts values of the type
@@ -58,7 +58,7 @@ abbrev pub with_indices : Module → List (Option Value) → ℕ → List Placed
 with_indices program registers ty [] off go = go off
 with_indices program registers ty (index ∷ indices) off go =
     with_index program registers index ty off
-      (λ next. with_inner program registers (type_at program.types ty) indices next go)
+    (λ next. with_inner program registers (type_at program.types ty) indices next go)
 
 -- the same base, and the offset with all indices, modulo 2 ^ 64
 unfoldable pub gep_step : Module → SeenState → Option ℕ → ℕ → Option Value → List Placed → StepEnding

@@ -75,11 +75,11 @@ abbrev pub resized : SeenState → Option ℕ → Base → ℕ → StepEnding
 resized s result Null size = allocated s result size
 resized s result (Object o) size =
     Goes
-      (assigned (record s { births = births_resized s o size }) result (block_pointer (length s.births)))
-      (block_news s size ∷ Died o.birth ∷ [])
+    (assigned (record s { births = births_resized s o size }) result (block_pointer (length s.births)))
+    (block_news s size ∷ Died o.birth ∷ [])
 
 -- `ptr realloc(ptr p, i64 n)`
 unfoldable pub realloc_step : SeenState → Option ℕ → List (Option Value) → StepEnding
 realloc_step s result values =
     with_pointer (argument values 0) (λ base off. with_integer (argument values 1) (λ size.
-      on_free s base off (resized s result base size)))
+    on_free s base off (resized s result base size)))

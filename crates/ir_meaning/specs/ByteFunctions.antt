@@ -15,18 +15,18 @@ use Rattle.ir_meaning.specs.StepEnding.{StepEnding, gives, leaves, with_integer,
 unfoldable pub copy_step : SeenState → Option ℕ → List (Option Value) → StepEnding
 copy_step s result values =
     with_pointer (argument values 0) (λ to to_off. with_pointer (argument values 1) (λ from from_off.
-      with_integer (argument values 2) (λ count.
-        on_access s Read from from_off count 1
-          (on_access s Write to to_off count 1
-            (gives (stored s to to_off (bytes_at s.births from from_off count)) result (Address to to_off))))))
+    with_integer (argument values 2) (λ count.
+    on_access s Read from from_off count 1
+    (on_access s Write to to_off count 1
+    (gives (stored s to to_off (bytes_at s.births from from_off count)) result (Address to to_off))))))
 
 -- `memset`, in both forms: the low byte of the number, so many times. The destination is the result
 unfoldable pub set_step : SeenState → Option ℕ → List (Option Value) → StepEnding
 set_step s result values =
     with_pointer (argument values 0) (λ to to_off. with_integer (argument values 1) (λ byte.
-      with_integer (argument values 2) (λ count.
-        on_access s Write to to_off count 1
-          (gives (stored s to to_off (replicate count (Data (byte % 256)))) result (Address to to_off)))))
+    with_integer (argument values 2) (λ count.
+    on_access s Write to to_off count 1
+    (gives (stored s to to_off (replicate count (Data (byte % 256)))) result (Address to to_off)))))
 
 -- -1 as an `i32`
 abbrev pub minus_one : ℕ
@@ -47,9 +47,9 @@ gives_order s result xs ys = leaves s IntegerOverPieces
 unfoldable pub memcmp_step : SeenState → Option ℕ → List (Option Value) → StepEnding
 memcmp_step s result values =
     with_pointer (argument values 0) (λ a a_off. with_pointer (argument values 1) (λ b b_off.
-      with_integer (argument values 2) (λ count.
-        on_access s Read a a_off count 1
-          (on_access s Read b b_off count 1
-            (gives_order s result
-              (data_numbers (bytes_at s.births a a_off count))
-              (data_numbers (bytes_at s.births b b_off count)))))))
+    with_integer (argument values 2) (λ count.
+    on_access s Read a a_off count 1
+    (on_access s Read b b_off count 1
+    (gives_order s result
+    (data_numbers (bytes_at s.births a a_off count))
+    (data_numbers (bytes_at s.births b b_off count)))))))

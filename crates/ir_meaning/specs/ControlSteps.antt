@@ -36,7 +36,7 @@ unfoldable pub with_phis : List IrType → List (Option Value) → ℕ → List 
 with_phis types before from [] after go = go after
 with_phis types before from (phi ∷ phis) after go =
     with_value (phi_value types before from phi.op)
-      (λ value. with_phis types before from phis (with_result after phi.result (Some value)) go)
+    (λ value. with_phis types before from phis (with_result after phi.result (Some value)) go)
 
 abbrev pub placed_at : Frame → List (Option Value) → ℕ → Frame
 placed_at frame registers inst = record frame { registers = registers; inst = inst }
@@ -45,8 +45,8 @@ placed_at frame registers inst = record frame { registers = registers; inst = in
 abbrev pub goes_to : Module → Function → SeenState → ℕ → StepEnding
 goes_to program f s target =
     with_named (slice_get f.blocks target) (λ block.
-      with_phis program.types s.frame.registers (block_holding f.blocks s.frame.inst) (phis_of f.insts block) s.frame.registers
-        (λ registers. Goes (record s { frame = placed_at s.frame registers (start_of block) }) []))
+    with_phis program.types s.frame.registers (block_holding f.blocks s.frame.inst) (phis_of f.insts block) s.frame.registers
+    (λ registers. Goes (record s { frame = placed_at s.frame registers (start_of block) }) []))
 
 -- `br` with one label
 unfoldable pub br_step : Module → Function → SeenState → ℕ → StepEnding
@@ -111,20 +111,20 @@ entry_frame f func arguments birth result chain =
 abbrev pub entered : SeenState → Function → ℕ → List Value → Option ℕ → Entry → StepEnding
 entered s f func arguments result entry =
     Goes
-      (record s {
-        births = entry.births;
-        frame = entry_frame f func arguments entry.birth result (chain_of s);
-        callers = next_instruction s.frame ∷ s.callers;
-      })
-      entry.news
+    (record s {
+      births = entry.births;
+      frame = entry_frame f func arguments entry.birth result (chain_of s);
+      callers = next_instruction s.frame ∷ s.callers;
+    })
+    entry.news
 
 -- a call of a defined function; a task that has 4,096 frames traps
 unfoldable pub call_step : Module → SeenState → Option ℕ → ℕ → List (Option Value) → StepEnding
 call_step program s result func arguments =
     with_named (slice_get program.functions func) (λ f. with_values arguments (λ values.
-      if nat_le 4096 (suc (length s.callers))
-      then traps s TooDeep
-      else entered s f func values result (entry_of s.births func s.task (chain_of s) f.allocas)))
+    if nat_le 4096 (suc (length s.callers))
+    then traps s TooDeep
+    else entered s f func values result (entry_of s.births func s.task (chain_of s) f.allocas)))
 
 -- the births once a frame has ended
 abbrev pub births_after : SeenState → Option ℕ → List Birth
@@ -149,12 +149,12 @@ abbrev pub returns_to : SeenState → Option Value → List Frame → StepEnding
 returns_to s value [] = last_return s value s.task
 returns_to s value (caller ∷ callers) =
     Goes
-      (record s {
-        births = births_after s s.frame.birth;
-        frame = record caller { registers = with_result caller.registers s.frame.result value };
-        callers = callers;
-      })
-      (death_news s.frame.birth)
+    (record s {
+      births = births_after s s.frame.birth;
+      frame = record caller { registers = with_result caller.registers s.frame.result value };
+      callers = callers;
+    })
+    (death_news s.frame.birth)
 
 -- `ret`, of a value or of none
 unfoldable pub ret_step : SeenState → Option (Option Value) → StepEnding

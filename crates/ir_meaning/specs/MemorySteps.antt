@@ -25,15 +25,15 @@ value_from type bytes = ok_or (option_map (λ n. Integer n) (int_from (width_of 
 unfoldable pub load_step : SeenState → Option ℕ → IrType → ℕ → Option Value → StepEnding
 load_step s result type align at =
     with_pointer at (λ base off.
-      on_access s Read base off (store_size type) align
-        (on_read s (value_from type (bytes_at s.births base off (store_size type))) (λ value. gives s result value)))
+    on_access s Read base off (store_size type) align
+    (on_read s (value_from type (bytes_at s.births base off (store_size type))) (λ value. gives s result value)))
 
 -- a write of the store size
 unfoldable pub store_step : SeenState → IrType → ℕ → Option Value → Option Value → StepEnding
 store_step s type align value at =
     with_value value (λ v. with_pointer at (λ base off.
-      on_access s Write base off (store_size type) align
-        (goes_on (stored s base off (bytes_of (store_size type) v)))))
+    on_access s Write base off (store_size type) align
+    (goes_on (stored s base off (bytes_of (store_size type) v)))))
 
 -- the integer of a type through a pointer, and on from it
 abbrev pub with_old : SeenState → IrType → Base → ℕ → (ℕ → StepEnding) → StepEnding
@@ -47,16 +47,16 @@ integer_stored s type base off n = stored s base off (bytes_of (store_size type)
 unfoldable pub rmw_step : SeenState → Option ℕ → RmwOp → IrType → ℕ → Option Value → Option Value → StepEnding
 rmw_step s result op type align at value =
     with_pointer at (λ base off. with_integer value (λ operand.
-      on_access s Write base off (store_size type) align
-        (with_old s type base off (λ old.
-          gives (integer_stored s type base off (rmw_result op (width_of type) old operand)) result (Integer old)))))
+    on_access s Write base off (store_size type) align
+    (with_old s type base off (λ old.
+    gives (integer_stored s type base off (rmw_result op (width_of type) old operand)) result (Integer old)))))
 
 -- a write; where the old value is the expected one the new one is stored; the old value and whether that is so are the result
 unfoldable pub cmpxchg_step : SeenState → Option ℕ → IrType → ℕ → Option Value → Option Value → Option Value → StepEnding
 cmpxchg_step s result type align at expected new =
     with_pointer at (λ base off. with_integer expected (λ wanted. with_integer new (λ replacement.
-      on_access s Write base off (store_size type) align
-        (with_old s type base off (λ old.
-          if old == wanted
-          then gives (integer_stored s type base off replacement) result (IntegerAndBit old 1)
-          else gives s result (IntegerAndBit old 0))))))
+    on_access s Write base off (store_size type) align
+    (with_old s type base off (λ old.
+    if old == wanted
+    then gives (integer_stored s type base off replacement) result (IntegerAndBit old 1)
+    else gives s result (IntegerAndBit old 0))))))

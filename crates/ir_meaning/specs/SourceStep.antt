@@ -97,7 +97,7 @@ operation_step program input f s result (op.ExtractValue pair part) = extract_st
 operation_step program input f s result (op.Call func ty args) = call_step program s result func (values_of program s args)
 operation_step program input f s result (op.CallLib declare ty args start) =
     with_named (slice_get program.declares declare)
-      (λ d. library_step program input s result (values_of program s args) start d.lib)
+    (λ d. library_step program input s result (values_of program s args) start d.lib)
 operation_step program input f s result (op.Br block) = br_step program f s block
 operation_step program input f s result (op.BrIf cond at_one at_zero) = br_if_step program f s (value_of program s cond) at_one at_zero
 operation_step program input f s result (op.Switch on other cases) = switch_step program f s (value_of program s on) other cases
@@ -108,4 +108,4 @@ operation_step program input f s result op.Unreachable = unreachable_step s
 abbrev pub source_step : Module → List ℕ → SeenState → StepEnding
 source_step program input s =
     with_named (slice_get program.functions s.frame.func) (λ f.
-      with_named (slice_get f.insts s.frame.inst) (λ i. operation_step program input f s i.result i.op))
+    with_named (slice_get f.insts s.frame.inst) (λ i. operation_step program input f s i.result i.op))

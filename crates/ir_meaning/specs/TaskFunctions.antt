@@ -25,9 +25,9 @@ started_task f func value birth s = record { frames = entry_frame f func (value 
 abbrev pub with_started : SeenState → Option ℕ → Base → ℕ → Function → ℕ → Value → Entry → StepEnding
 with_started s result base off f func value entry =
     Starts
-      (assigned (stored (record s { births = entry.births }) base off (bytes_of 8 (Integer (length s.finished)))) result (Integer 0))
-      entry.news
-      (started_task f func value entry.birth s)
+    (assigned (stored (record s { births = entry.births }) base off (bytes_of 8 (Integer (length s.finished)))) result (Integer 0))
+    entry.news
+    (started_task f func value entry.birth s)
 
 -- a task starts; where 64 were started the result is 11
 abbrev pub started : SeenState → Option ℕ → Base → ℕ → Function → ℕ → Value → StepEnding
@@ -40,8 +40,8 @@ started s result base off f func value =
 unfoldable pub create_step : Module → SeenState → Option ℕ → List (Option Value) → Option StartArg → StepEnding
 create_step program s result values start =
     with_named start (λ begin. with_named (slice_get program.functions begin.func) (λ f.
-      with_pointer (argument values 0) (λ base off. with_value (argument values 2) (λ value.
-        on_access s Write base off 8 8 (started s result base off f begin.func value)))))
+    with_pointer (argument values 0) (λ base off. with_value (argument values 2) (λ value.
+    on_access s Write base off 8 8 (started s result base off f begin.func value)))))
 
 -- by whether the task is there and is finished
 abbrev pub joined : SeenState → Option ℕ → Option Bool → StepEnding
@@ -75,13 +75,13 @@ mutex_init_step s result values = on_mutex s values (λ base off. mutex_set s re
 unfoldable pub mutex_lock_step : SeenState → Option ℕ → List (Option Value) → StepEnding
 mutex_lock_step s result values =
     on_mutex s values (λ base off. with_word s base off (λ word.
-      if word == 0 then mutex_set s result base off (s.task + 1) else Stays))
+    if word == 0 then mutex_set s result base off (s.task + 1) else Stays))
 
 -- `i32 pthread_mutex_unlock(ptr m)`: the result is 1 where another task holds the mutex, or none
 unfoldable pub mutex_unlock_step : SeenState → Option ℕ → List (Option Value) → StepEnding
 mutex_unlock_step s result values =
     on_mutex s values (λ base off. with_word s base off (λ word.
-      if word == s.task + 1 then mutex_set s result base off 0 else gives s result (Integer 1)))
+    if word == s.task + 1 then mutex_set s result base off 0 else gives s result (Integer 1)))
 
 -- `i32 pthread_mutex_destroy(ptr m)`
 unfoldable pub mutex_destroy_step : SeenState → Option ℕ → StepEnding

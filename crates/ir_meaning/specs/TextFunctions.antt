@@ -28,9 +28,9 @@ unfoldable pub with_string_within : ℕ → SeenState → Base → ℕ → (List
 with_string_within zero s base off go = Stuck
 with_string_within (suc tries) s base off go =
     on_access s Read base off 1 1
-      (on_byte s (bytes_at s.births base off 1)
-        (λ _. go [])
-        (λ n. with_string_within tries s base ((off + 1) % 2 ^ 64) (λ ns. go (n ∷ ns))))
+    (on_byte s (bytes_at s.births base off 1)
+    (λ _. go [])
+    (λ n. with_string_within tries s base ((off + 1) % 2 ^ 64) (λ ns. go (n ∷ ns))))
 
 abbrev pub base_size : List Birth → Base → ℕ
 base_size births Null = 0

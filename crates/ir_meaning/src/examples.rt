@@ -24,59 +24,59 @@ pub fn exits_and_traps()
 pub fn violations()
     ensures heap_overflow { shown_end overflows_a_block (0 ∷ [])
         ≡ Some (record {
-            ending = Violated (record {
-                kind = HeapOverflow;
-                pointer = pointer_to (object_of 0 0) 10;
-                size = 1;
-                access = Write;
-                task = 0;
-                chain = site 0 2 ∷ []
-            });
-            step = 3;
-            output = []
+          ending = Violated (record {
+            kind = HeapOverflow;
+            pointer = pointer_to (object_of 0 0) 10;
+            size = 1;
+            access = Write;
+            task = 0;
+            chain = site 0 2 ∷ [];
+          });
+          step = 3;
+          output = [];
         }) }
     ensures use_after_free { shown_end uses_a_freed_block (0 ∷ [])
         ≡ Some (record {
-            ending = Violated (record {
-                kind = UseAfterFree;
-                pointer = pointer_to (object_of 0 0) 0;
-                size = 1;
-                access = Read;
-                task = 0;
-                chain = site 0 2 ∷ []
-            });
-            step = 3;
-            output = []
+          ending = Violated (record {
+            kind = UseAfterFree;
+            pointer = pointer_to (object_of 0 0) 0;
+            size = 1;
+            access = Read;
+            task = 0;
+            chain = site 0 2 ∷ [];
+          });
+          step = 3;
+          output = [];
         }) }
     ensures block_died { shown_life uses_a_freed_block (0 ∷ []) (object_of 0 0)
         ≡ Some (Dead 0 (site 0 1 ∷ [])) }
     ensures use_after_return { shown_end uses_a_returned_variable (0 ∷ [])
         ≡ Some (record {
-            ending = Violated (record {
-                kind = UseAfterReturn;
-                pointer = pointer_to (object_of 0 0) 0;
-                size = 1;
-                access = Read;
-                task = 0;
-                chain = site 1 1 ∷ site 2 1 ∷ []
-            });
-            step = 6;
-            output = []
+          ending = Violated (record {
+            kind = UseAfterReturn;
+            pointer = pointer_to (object_of 0 0) 0;
+            size = 1;
+            access = Read;
+            task = 0;
+            chain = site 1 1 ∷ site 2 1 ∷ [];
+          });
+          step = 6;
+          output = [];
         }) }
     ensures variable_died { shown_life uses_a_returned_variable (0 ∷ []) (object_of 0 0)
         ≡ Some (Dead 0 (site 0 1 ∷ site 2 0 ∷ [])) }
     ensures write_before_a_block { shown_end writes_before_a_block (0 ∷ [])
         ≡ Some (record {
-            ending = Violated (record {
-                kind = HeapOverflow;
-                pointer = pointer_to (object_of 1 0) (2 ^ 64 - 16);
-                size = 1;
-                access = Write;
-                task = 0;
-                chain = site 0 5 ∷ []
-            });
-            step = 6;
-            output = []
+          ending = Violated (record {
+            kind = HeapOverflow;
+            pointer = pointer_to (object_of 1 0) (2 ^ 64 - 16);
+            size = 1;
+            access = Write;
+            task = 0;
+            chain = site 0 5 ∷ [];
+          });
+          step = 6;
+          output = [];
         }) }
 {}
 
@@ -88,16 +88,16 @@ pub fn turns_of_two_tasks()
         ≡ Some (record { ending = Exited 0; step = 6; output = 0 ∷ [] }) }
     ensures freed_first { shown_end races_for_a_block (1 ∷ [])
         ≡ Some (record {
-            ending = Violated (record {
-                kind = UseAfterFree;
-                pointer = pointer_to (object_of 1 0) 0;
-                size = 1;
-                access = Read;
-                task = 0;
-                chain = site 1 2 ∷ []
-            });
-            step = 5;
-            output = []
+          ending = Violated (record {
+            kind = UseAfterFree;
+            pointer = pointer_to (object_of 1 0) 0;
+            size = 1;
+            access = Read;
+            task = 0;
+            chain = site 1 2 ∷ [];
+          });
+          step = 5;
+          output = [];
         }) }
     ensures freed_by_the_other_task { shown_life races_for_a_block (1 ∷ []) (object_of 1 0)
         ≡ Some (Dead 1 (site 0 0 ∷ site 1 1 ∷ [])) }

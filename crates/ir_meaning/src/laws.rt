@@ -31,7 +31,7 @@ pub fn runs_under_bounds()
     ensures sum { (program : Module) (input : List ℕ) (turns : ℕ → ℕ) (n m : ℕ)
         (w : SourceState)
         → run_from program input turns (n + m) w
-            ≡ resumed program input turns m (run_from program input turns n w) }
+        ≡ resumed program input turns m (run_from program input turns n w) }
 {}
 
 /// What is dead stays as it is: no step, and no run, changes the record of a dead object, its size, life or bytes. The
