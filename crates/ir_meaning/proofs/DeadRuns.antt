@@ -13,7 +13,7 @@ use Rattle.ir_meaning.specs.DeadObjects.{KeepsDead}
 use Rattle.ir_meaning.specs.SourceState.{Frame, Task, SeenState, SourceState, seen}
 use Rattle.ir_meaning.specs.StepEnding.{StepEnding, Goes, Stays, Starts, Finishes, Exits, Traps, Violates, Leaves, Stuck}
 use Rattle.ir_meaning.specs.SourceStep.{library_step, operation_step, source_step}
-use Rattle.ir_meaning.specs.SourceRun.{RunStep, Next, Ends, SourceOutcome, Ended, Spent, lifted, frames_step, task_step, next_task, with_turn_drawn, run_step, after_step, run_from}
+use Rattle.ir_meaning.specs.SourceRun.{SourceEnding, RunStep, Next, Ends, SourceOutcome, Ended, Spent, lifted, frames_step, task_step, next_task, with_turn_drawn, run_step, after_step, run_from}
 use Rattle.ir_meaning.proofs.DeadBirths.{keeps_same, keeps_on}
 use Rattle.ir_meaning.proofs.DeadEndings.{EndKeeps, with_named-keeps}
 use Rattle.ir_meaning.proofs.DeadSteps as each
@@ -131,3 +131,6 @@ any_run-keeps program input turns (suc n) w =
 
 pub run_from-keeps : (program : Module) (input : List ℕ) (turns : ℕ → ℕ) (n : ℕ) (w last : SourceState) → run_from program input turns n w ≡ Spent last → KeepsDead w.births last.births
 run_from-keeps program input turns n w last e = subst (RunKeeps w.births) e (any_run-keeps program input turns n w)
+
+pub run_from-ended-keeps : (program : Module) (input : List ℕ) (turns : ℕ → ℕ) (n : ℕ) (w last : SourceState) (ending : SourceEnding) → run_from program input turns n w ≡ Ended ending last → KeepsDead w.births last.births
+run_from-ended-keeps program input turns n w last ending e = subst (RunKeeps w.births) e (any_run-keeps program input turns n w)

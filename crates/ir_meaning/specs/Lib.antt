@@ -11,6 +11,7 @@ pub mod MemorySteps
 pub mod Operands
 pub mod PointerComparison
 pub mod Shown
+pub mod SmallPrograms
 pub mod SourceRun
 pub mod SourceState
 pub mod SourceStep

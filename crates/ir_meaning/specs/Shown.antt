@@ -1,6 +1,6 @@
 -- The end of a run of a small module, shown by evaluation: no input, turn words that repeat, and at most 20 steps. This
 -- project's choice.
-use Rattle.std.specs.Prelude.{ℕ, List, [], Option, option_map, option_and_then}
+use Rattle.std.specs.Prelude.{ℕ, List, [], Option, Some, None, option_map, option_and_then}
 use Rattle.hw_base.specs.declared.pointers.Base.TheVariants.{Object}
 use Rattle.hw_base.specs.declared.pointers.Obj.{Obj}
 use Rattle.hw_base.specs.declared.pointers.Pointer.{Pointer}
@@ -64,3 +64,12 @@ life_in w o = option_map life_of (get_object w.births o)
 unfoldable pub shown_life : Module → List ℕ → Obj → Option Life
 unfolding shown_end
 shown_life program turns o = option_and_then (λ outcome. life_in (last_state outcome) o) (example_run program turns)
+
+abbrev pub steps_spent : SourceOutcome → Option ℕ
+steps_spent (Ended ending w) = None
+steps_spent (Spent w) = Some w.steps
+
+-- how many steps an example made that hasn't ended within its bound
+unfoldable pub shown_spent : Module → List ℕ → Option ℕ
+unfolding shown_end
+shown_spent program turns = option_and_then steps_spent (example_run program turns)

@@ -44,4 +44,8 @@ pub fn what_is_dead_stays()
         (w last : SourceState)
         → run_from program input turns n w ≡ Spent last
         → KeepsDead w.births last.births }
+    ensures run_that_ended { (program : Module) (input : List ℕ) (turns : ℕ → ℕ) (n : ℕ)
+        (w last : SourceState) (ending : SourceEnding)
+        → run_from program input turns n w ≡ Ended ending last
+        → KeepsDead w.births last.births }
 {}

@@ -5,6 +5,8 @@
 
 mod examples;
 mod laws;
+mod programs;
 
 pub use examples::{exits_and_traps, turns_of_two_tasks, violations};
 pub use laws::{runs_under_bounds, what_is_dead_stays, what_was_written_is_read};
+pub use programs::small_programs;
