@@ -1,1 +1,4 @@
+pub mod AddressMap
+pub mod Bytes
 pub mod Status
+pub mod TaggedAddress

@@ -1,0 +1,37 @@
+-- The map of the simulated address space, and sizes in granules. A granule is 16 bytes (Clang, "Hardware-assisted
+-- AddressSanitizer Design Documentation", "Algorithm"). The ranges are this project's choice. The definitions of memory,
+-- blocks, frames and globals take the map, so that they compute on small ones.
+use Rattle.std.specs.Prelude.{ℕ, zero, suc, ◌+◌, ◌*◌, ◌/◌}
+
+-- Addresses and lengths are in bytes, multiples of 16. A stack for each of the tasks follows the other from `stacks_at` on.
+-- A task has at most `most_frames` frames.
+pub record AddressMap : Type 0 where
+  pub globals_at : ℕ
+  pub stacks_at : ℕ
+  pub stack_length : ℕ
+  pub most_tasks : ℕ
+  pub most_frames : ℕ
+  pub heap_at : ℕ
+  pub heap_length : ℕ
+
+-- the program's map, for a length of the heap: 64 stacks of 256 KiB from 0x10000000 on
+abbrev pub program_map : ℕ → AddressMap
+program_map heap =
+    record {
+      globals_at = 65536;
+      stacks_at = 268435456;
+      stack_length = 262144;
+      most_tasks = 64;
+      most_frames = 4096;
+      heap_at = 536870912;
+      heap_length = heap;
+    }
+
+-- the bytes that an object takes: its size rounded up to a multiple of 16, and at least 16
+abbrev pub rounded_size : ℕ → ℕ
+rounded_size zero = 16
+rounded_size (suc n) = (suc n + 15) / 16 * 16
+
+-- the number of the granule of an address
+abbrev pub granule_of : ℕ → ℕ
+granule_of address = address / 16
