@@ -1,0 +1,2 @@
+pub mod ObjectTagLemmas
+pub mod TagRuleLemmas

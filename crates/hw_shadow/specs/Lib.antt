@@ -1,0 +1,2 @@
+pub mod ObjectTags
+pub mod TagRule

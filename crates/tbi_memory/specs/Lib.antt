@@ -1,0 +1,4 @@
+pub mod AddressSpace
+pub mod MappedBytes
+pub mod ObjectMemory
+pub mod SmallSpace
