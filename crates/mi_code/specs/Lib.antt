@@ -1,4 +1,5 @@
 pub mod EdgeMoves
+pub mod ExampleCode
 pub mod IndexSteps
 pub mod Instrumentation
 pub mod LibraryCode

@@ -5,10 +5,12 @@
 
 mod code_functions;
 mod edges;
+mod laws;
 mod operands;
 mod operations;
 
 pub use code_functions::{Code, CodeFunction, IndexList, Mark, Mi, MiList};
 pub use edges::{Edge, MiCase, MiCaseList, Move, MoveList};
+pub use laws::{an_example_of_instrumented_code, each_instruction_stands_at_its_place};
 pub use operands::{IndexStep, IndexStepList, MiOperand, MiOperandList, Width};
 pub use operations::MiOp;
