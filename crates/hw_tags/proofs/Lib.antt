@@ -1,3 +1,4 @@
+pub mod LeastPlaceLemmas
 pub mod TagLemmas
 pub mod WordFacts
 pub mod WordLemmas

@@ -1,3 +1,4 @@
+pub mod LeastPlace
 pub mod Options
 pub mod Tag
 pub mod Turn

@@ -1,0 +1,3 @@
+pub mod HeapBlocks
+pub mod HeapSteps
+pub mod SmallHeap

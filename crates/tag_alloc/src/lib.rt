@@ -1,0 +1,11 @@
+//! Heap blocks with tags: where a block is born and with which tag, what a free asks of its number, and what memory and
+//! the table of blocks are afterwards. The layers above call these by number, and list living and freed blocks for reports.
+#![tactic(auto)]
+
+mod blocks;
+mod examples;
+mod laws;
+
+pub use blocks::{Block, FreeMismatch, Freed};
+pub use examples::{births_by_example, frees_by_example};
+pub use laws::{the_free_rule, the_table_of_blocks};
