@@ -3,7 +3,7 @@ use Rattle.std.proofs.Common.{◌≡◌, ℕ, ◌<◌, ◌≤◌, List, Some, re
 use Rattle.std.specs.Prelude.{Option, IsSome}
 use Rattle.std.specs.Io.KnownBytes.{Appends}
 use Rattle.hw_base.specs.declared.endings.Status.{Status}
-use Rattle.hw_driver.specs.declared.machine.Mismatch.{Mismatch}
+use Rattle.hw_shadow.specs.declared.mismatch.Mismatch.{Mismatch}
 use Rattle.hw_driver.specs.Program.{Program, IsProgram}
 use Rattle.hw_driver.specs.Source as source
 use Rattle.hw_driver.specs.Source.{SourceState, SourceEnding, Violation, EndsInViolation, source_run}

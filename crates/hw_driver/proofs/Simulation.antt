@@ -7,14 +7,16 @@ use Rattle.hw_base.specs.declared.accesses.Access.{Access}
 use Rattle.hw_base.specs.declared.accesses.Access.TheVariants.{Read, Write}
 use Rattle.hw_base.specs.declared.accesses.Kind.{Kind}
 use Rattle.hw_base.specs.declared.accesses.Kind.TheVariants.{GlobalOverflow}
-use Rattle.hw_driver.specs.declared.machine.Mismatch.{Mismatch}
-use Rattle.hw_driver.specs.declared.machine.Mismatch.TheVariants.{Unmapped, Tags}
+use Rattle.hw_shadow.specs.declared.mismatch.Mismatch.{Mismatch}
+use Rattle.hw_shadow.specs.declared.mismatch.Mismatch.TheVariants.{Unmapped, Tags}
 use Rattle.hw_driver.specs.declared.program.Group.{Group}
 use Rattle.hw_driver.specs.declared.program.Group.TheVariants.{Store, Load}
 use Rattle.hw_driver.specs.Program.{Program, IsProgram, IsGroup, AreGroups}
 use Rattle.hw_driver.specs.Source as source
 use Rattle.hw_driver.specs.Source.{SourceState, SourceStep, SourceEnding, Violation, Fine, Violated, on_access, violation_at, chain_at, source_step, source_on, source_from, source_run}
-use Rattle.hw_driver.specs.Tags.{tagged_address, pointer_tag, address_of, is_of_global, is_of_stacks_or_heap, tags_agree, mismatch_at, refusing_of, memory_tag, last_byte, global_start}
+use Rattle.hw_base.specs.TaggedAddress.{address_of, pointer_tag}
+use Rattle.hw_shadow.specs.TagRule.{tags_agree}
+use Rattle.hw_driver.specs.Tags.{global_pointer, is_of_global, is_of_stacks_or_heap, mismatch_at, refusing_of, memory_tag, last_byte, global_start}
 use Rattle.hw_driver.specs.Machine as machine
 use Rattle.hw_driver.specs.Machine.{MachineState, MachineStep, MachineEnding, EndsInReport, shadow_tag, byte_at, set_byte, check, on_check, failed_check, machine_store, machine_load, machine_step, machine_on, machine_from, machine_start, machine_run}
 use Rattle.hw_driver.specs.Detection.{refusing_at, report_of}
@@ -90,11 +92,11 @@ check-alike tag size number s m set like =
     ∙ check-bytes tag number s.bytes (subst (IsSetting tag) (sym like.size_is) set)
 
 -- the parts of a tagged address
-address_of-tagged : (tag offset : ℕ) → tag < 256 → offset < 2 ^ 33 → address_of (tagged_address tag offset) ≡ global_start + offset
-address_of-tagged tag offset byte small = omega arith
+address_of-global_pointer : (tag offset : ℕ) → tag < 256 → offset < 2 ^ 33 → address_of (global_pointer tag offset) ≡ global_start + offset
+address_of-global_pointer tag offset byte small = omega arith
 
-pointer_tag-tagged : (tag offset : ℕ) → tag < 256 → offset < 2 ^ 33 → pointer_tag (tagged_address tag offset) ≡ tag
-pointer_tag-tagged tag offset byte small = omega arith
+pointer_tag-global_pointer : (tag offset : ℕ) → tag < 256 → offset < 2 ^ 33 → pointer_tag (global_pointer tag offset) ≡ tag
+pointer_tag-global_pointer tag offset byte small = omega arith
 
 -- equal tags agree
 tags_agree-same : (t e l : ℕ) → tags_agree t t e l ≡ true
@@ -111,11 +113,11 @@ memory_tag-inside tag size offset whole inside =
     rw is refl
 
 -- the rule passes an access in the global
-pub refusing_of-inside : (tag size offset : ℕ) (last : ℕ → ℕ) → IsSetting tag size → offset < size → refusing_of (memory_tag size tag) last (tagged_address tag offset) ≡ None
+pub refusing_of-inside : (tag size offset : ℕ) (last : ℕ → ℕ) → IsSetting tag size → offset < size → refusing_of (memory_tag size tag) last (global_pointer tag offset) ≡ None
 unfolding refusing_of
 refusing_of-inside tag size offset last set inside =
-    let a = address_of-tagged tag offset set.byte (omega (arith, set.small)) in
-    let p = pointer_tag-tagged tag offset set.byte (omega (arith, set.small)) in
+    let a = address_of-global_pointer tag offset set.byte (omega (arith, set.small)) in
+    let p = pointer_tag-global_pointer tag offset set.byte (omega (arith, set.small)) in
     let t = memory_tag-inside tag size offset set.whole inside in
     rw (a, t, p, tags_agree-same) refl
 
@@ -126,14 +128,14 @@ found_past number last true high = (Tags (address_of number / 16 * 16) (pointer_
 
 -- the rule refuses each access past the global
 pub refusing_of-past : (tag size offset : ℕ) (last : ℕ → ℕ) → IsSetting tag size → size ≤ offset → offset < 2 ^ 33
-    → (found : Mismatch) × (refusing_of (memory_tag size tag) last (tagged_address tag offset) ≡ Some found)
+    → (found : Mismatch) × (refusing_of (memory_tag size tag) last (global_pointer tag offset) ≡ Some found)
 unfolding refusing_of
 refusing_of-past tag size offset last set past small =
-    let a = address_of-tagged tag offset set.byte small in
-    let p = pointer_tag-tagged tag offset set.byte small in
+    let a = address_of-global_pointer tag offset set.byte small in
+    let p = pointer_tag-global_pointer tag offset set.byte small in
     let is : is_of_global size ((global_start + offset) / 16 * 16) ≡ false = is_within-past global_start (global_start + size) ((global_start + offset) / 16 * 16) (omega (arith, set.whole)) in
-    let granule : memory_tag size tag (address_of (tagged_address tag offset) / 16 * 16) ≡ (if is_of_stacks_or_heap (address_of (tagged_address tag offset) / 16 * 16) then Some 0 else None) = rw (a, is) refl in
-    rw granule (found_past (tagged_address tag offset) (last (address_of (tagged_address tag offset) / 16 * 16)) (is_of_stacks_or_heap (address_of (tagged_address tag offset) / 16 * 16)) (rw p set.high))
+    let granule : memory_tag size tag (address_of (global_pointer tag offset) / 16 * 16) ≡ (if is_of_stacks_or_heap (address_of (global_pointer tag offset) / 16 * 16) then Some 0 else None) = rw (a, is) refl in
+    rw granule (found_past (global_pointer tag offset) (last (address_of (global_pointer tag offset) / 16 * 16)) (is_of_stacks_or_heap (address_of (global_pointer tag offset) / 16 * 16)) (rw p set.high))
 
 -- a step of the source and one of the machine agree
 abbrev pub StepAgrees : ℕ → ℕ → SourceState → SourceStep → MachineStep → Type 0
@@ -141,35 +143,35 @@ StepAgrees tag size s (source.Goes next) r = (m : MachineState) × (r ≡ machin
 StepAgrees tag size s (source.Violates v) r = (found : Mismatch) × (refusing_at tag s v ≡ Some found) × (r ≡ machine.Reports (report_of tag v found))
 
 -- what the check finds in the global, and past it
-check-inside : (tag size offset : ℕ) (s : SourceState) (m : MachineState) → IsSetting tag size → IsAlike tag size s m → offset < length s.bytes → check m (tagged_address m.tag offset) ≡ None
+check-inside : (tag size offset : ℕ) (s : SourceState) (m : MachineState) → IsSetting tag size → IsAlike tag size s m → offset < length s.bytes → check m (global_pointer m.tag offset) ≡ None
 check-inside tag size offset s m set like inside =
-    ap (λ t. check m (tagged_address t offset)) like.tagged
-    ∙ check-alike tag size (tagged_address tag offset) s m set like
+    ap (λ t. check m (global_pointer t offset)) like.tagged
+    ∙ check-alike tag size (global_pointer tag offset) s m set like
     ∙ refusing_of-inside tag (length s.bytes) offset (last_byte s.bytes) (subst (IsSetting tag) (sym like.size_is) set) inside
 
 past : (tag size offset : ℕ) (s : SourceState) → IsSetting tag size → length s.bytes ≡ size → length s.bytes ≤ offset → offset < 2 ^ 33
-    → (found : Mismatch) × (refusing_of (memory_tag (length s.bytes) tag) (last_byte s.bytes) (tagged_address tag offset) ≡ Some found)
+    → (found : Mismatch) × (refusing_of (memory_tag (length s.bytes) tag) (last_byte s.bytes) (global_pointer tag offset) ≡ Some found)
 past tag size offset s set is beyond small = refusing_of-past tag (length s.bytes) offset (last_byte s.bytes) (subst (IsSetting tag) (sym is) set) beyond small
 
 -- a failed check is the report of the violation
 report-alike : (tag size offset : ℕ) (access : Access) (kind : Kind) (s : SourceState) (m : MachineState) (found : Mismatch) → IsAlike tag size s m
-    → failed_check m access (tagged_address m.tag offset) found ≡ report_of tag (violation_at s access offset kind) found
+    → failed_check m access (global_pointer m.tag offset) found ≡ report_of tag (violation_at s access offset kind) found
 report-alike tag size offset access kind s m found like =
-    ap (λ t. failed_check m access (tagged_address t offset) found) like.tagged
-    ∙ ap (λ n. record { access = access; size = 1; number = tagged_address tag offset; task = 0; step = n + 1; chain = chain_at (n + 1); found = found }) like.step
+    ap (λ t. failed_check m access (global_pointer t offset) found) like.tagged
+    ∙ ap (λ n. record { access = access; size = 1; number = global_pointer tag offset; task = 0; step = n + 1; chain = chain_at (n + 1); found = found }) like.step
 
 -- an access agrees with its check
 access_agrees : (tag size offset : ℕ) (access : Access) (s next : SourceState) (m then_m : MachineState) (b : Bool) → IsSetting tag size → IsAlike tag size s m → offset < 2 ^ 33
     → (offset < length s.bytes → IsAlike tag size next then_m) → nat_le (offset + 1) (length s.bytes) ≡ b
-    → StepAgrees tag size s (on_access s access offset next (if b then Fine else Violated GlobalOverflow)) (on_check m access (tagged_address m.tag offset) then_m (check m (tagged_address m.tag offset)))
+    → StepAgrees tag size s (on_access s access offset next (if b then Fine else Violated GlobalOverflow)) (on_check m access (global_pointer m.tag offset) then_m (check m (global_pointer m.tag offset)))
 access_agrees tag size offset access s next m then_m true set like small goes is =
     let inside = below offset (length s.bytes) is in
-    (then_m, ap (on_check m access (tagged_address m.tag offset) then_m) (check-inside tag size offset s m set like inside), goes inside)
+    (then_m, ap (on_check m access (global_pointer m.tag offset) then_m) (check-inside tag size offset s m set like inside), goes inside)
 access_agrees tag size offset access s next m then_m false set like small goes is =
     let p = past tag size offset s set like.size_is (above offset (length s.bytes) is) small in
-    let found : check m (tagged_address m.tag offset) ≡ Some p.0 =
-    ap (λ t. check m (tagged_address t offset)) like.tagged ∙ check-alike tag size (tagged_address tag offset) s m set like ∙ p.1 in
-    (p.0, p.1, ap (on_check m access (tagged_address m.tag offset) then_m) found ∙ ap machine.Reports (report-alike tag size offset access GlobalOverflow s m p.0 like))
+    let found : check m (global_pointer m.tag offset) ≡ Some p.0 =
+    ap (λ t. check m (global_pointer t offset)) like.tagged ∙ check-alike tag size (global_pointer tag offset) s m set like ∙ p.1 in
+    (p.0, p.1, ap (on_check m access (global_pointer m.tag offset) then_m) found ∙ ap machine.Reports (report-alike tag size offset access GlobalOverflow s m p.0 like))
 
 -- the byte that is stored, and the byte that is loaded
 set_byte-inside : (bytes : List ℕ) (offset value : ℕ) → offset < length bytes → set_byte bytes (global_start + offset) value ≡ slice_set bytes offset value
@@ -184,11 +186,11 @@ byte_at-inside bytes offset inside =
     let at : global_start + offset - global_start ≡ offset = omega arith in
     rw (is, at) refl
 
-address-alike : (tag size offset : ℕ) (s : SourceState) (m : MachineState) → IsSetting tag size → IsAlike tag size s m → offset < 2 ^ 33 → address_of (tagged_address m.tag offset) ≡ global_start + offset
-address-alike tag size offset s m set like small = ap (λ t. address_of (tagged_address t offset)) like.tagged ∙ address_of-tagged tag offset set.byte small
+address-alike : (tag size offset : ℕ) (s : SourceState) (m : MachineState) → IsSetting tag size → IsAlike tag size s m → offset < 2 ^ 33 → address_of (global_pointer m.tag offset) ≡ global_start + offset
+address-alike tag size offset s m set like small = ap (λ t. address_of (global_pointer t offset)) like.tagged ∙ address_of-global_pointer tag offset set.byte small
 
 stored_alike : (tag size value offset : ℕ) (s : SourceState) (m : MachineState) → IsSetting tag size → IsAlike tag size s m → offset < 2 ^ 33 → offset < length s.bytes
-    → IsAlike tag size (record s { bytes = slice_set s.bytes offset value; step = s.step + 1 }) (record m { bytes = set_byte m.bytes (address_of (tagged_address m.tag offset)) value; step = m.step + 1 })
+    → IsAlike tag size (record s { bytes = slice_set s.bytes offset value; step = s.step + 1 }) (record m { bytes = set_byte m.bytes (address_of (global_pointer m.tag offset)) value; step = m.step + 1 })
 stored_alike tag size value offset s m set like small inside = record {
   tagged = like.tagged;
   shadow = like.shadow;
@@ -199,13 +201,13 @@ stored_alike tag size value offset s m set like small inside = record {
 }
 
 loaded_alike : (tag size offset : ℕ) (s : SourceState) (m : MachineState) → IsSetting tag size → IsAlike tag size s m → offset < 2 ^ 33 → offset < length s.bytes
-    → IsAlike tag size (record s { output = s.output ++ slice_index s.bytes offset ∷ []; step = s.step + 3 }) (record m { output = m.output ++ byte_at m.bytes (address_of (tagged_address m.tag offset)) ∷ []; step = m.step + 3 })
+    → IsAlike tag size (record s { output = s.output ++ slice_index s.bytes offset ∷ []; step = s.step + 3 }) (record m { output = m.output ++ byte_at m.bytes (address_of (global_pointer m.tag offset)) ∷ []; step = m.step + 3 })
 loaded_alike tag size offset s m set like small inside = record {
   tagged = like.tagged;
   shadow = like.shadow;
   bytes = like.bytes;
   size_is = like.size_is;
-  output = ap (λ out. out ++ byte_at m.bytes (address_of (tagged_address m.tag offset)) ∷ []) like.output
+  output = ap (λ out. out ++ byte_at m.bytes (address_of (global_pointer m.tag offset)) ∷ []) like.output
       ∙ ap (λ a. s.output ++ byte_at m.bytes a ∷ []) (address-alike tag size offset s m set like small)
       ∙ ap (λ bs. s.output ++ byte_at bs (global_start + offset) ∷ []) like.bytes
       ∙ ap (λ b. s.output ++ b ∷ []) (byte_at-inside s.bytes offset inside);

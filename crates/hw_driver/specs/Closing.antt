@@ -5,8 +5,8 @@ use Rattle.hw_base.specs.declared.accesses.Access.{Access}
 use Rattle.hw_base.specs.declared.accesses.Access.TheVariants.{Read, Write, Free}
 use Rattle.ir_core.specs.declared.faults.Fault.TheVariants.{Unsupported}
 use Rattle.ir_core.specs.Refusals.{refused_line}
-use Rattle.hw_driver.specs.declared.machine.Mismatch.{Mismatch}
-use Rattle.hw_driver.specs.declared.machine.Mismatch.TheVariants.{Unmapped, Tags}
+use Rattle.hw_shadow.specs.declared.mismatch.Mismatch.{Mismatch}
+use Rattle.hw_shadow.specs.declared.mismatch.Mismatch.TheVariants.{Unmapped, Tags}
 use Rattle.hw_driver.specs.Machine.{FailedCheck}
 
 abbrev pub usage_line : List ℕ

@@ -3,24 +3,24 @@ use Rattle.std.specs.Prelude.{◌≡◌, ℕ, List, ◌↔◌, IsSome, Option, S
 use Rattle.std.specs.Io.KnownBytes.{Appends}
 use Rattle.hw_base.specs.declared.endings.Status.{Status}
 use Rattle.hw_base.specs.declared.endings.Status.TheVariants.{Ended, Reported}
-use Rattle.hw_driver.specs.declared.machine.Mismatch.{Mismatch}
+use Rattle.hw_shadow.specs.declared.mismatch.Mismatch.{Mismatch}
 use Rattle.hw_driver.specs.Program.{Program}
 use Rattle.hw_driver.specs.Source.{SourceState, Violation, source_run, Exits, EndsInViolation}
-use Rattle.hw_driver.specs.Tags.{tagged_address, refusing_of, memory_tag, last_byte}
+use Rattle.hw_driver.specs.Tags.{global_pointer, refusing_of, memory_tag, last_byte}
 use Rattle.hw_driver.specs.Machine.{FailedCheck}
 use Rattle.hw_driver.specs.Closing.{ended_line, report_lines}
 use Rattle.hw_driver.specs.Answer.{SinkChange}
 
 -- what the tag rule finds at a violation in a state of the source, with the global's tag: what refuses it, or none where it passes
 abbrev pub refusing_at : ℕ → SourceState → Violation → Option Mismatch
-refusing_at tag s v = refusing_of (memory_tag (length s.bytes) tag) (last_byte s.bytes) (tagged_address tag v.offset)
+refusing_at tag s v = refusing_of (memory_tag (length s.bytes) tag) (last_byte s.bytes) (global_pointer tag v.offset)
 
 -- the report of a violation: exactly that access, by its number
 abbrev pub report_of : ℕ → Violation → Mismatch → FailedCheck
 report_of tag v found = record {
   access = v.access;
   size = v.size;
-  number = tagged_address tag v.offset;
+  number = global_pointer tag v.offset;
   task = v.task;
   step = v.step;
   chain = v.chain;

@@ -5,12 +5,13 @@ use Rattle.std.specs.Prelude.{ℕ, ◌+◌, ◌-◌, ◌*◌, ◌/◌, List, [],
 use Rattle.hw_base.specs.declared.accesses.Access.{Access}
 use Rattle.hw_base.specs.declared.accesses.Access.TheVariants.{Read, Write}
 use Rattle.hw_base.specs.declared.pointers.Site.{Site}
-use Rattle.hw_driver.specs.declared.machine.Mismatch.{Mismatch}
+use Rattle.hw_shadow.specs.declared.mismatch.Mismatch.{Mismatch}
 use Rattle.hw_driver.specs.declared.program.Group.{Group}
 use Rattle.hw_driver.specs.declared.program.Group.TheVariants.{Store, Load}
 use Rattle.hw_driver.specs.Program.{Program}
 use Rattle.hw_driver.specs.Source.{chain_at}
-use Rattle.hw_driver.specs.Tags.{global_start, tagged_address, address_of, is_of_global, is_of_stacks_or_heap, refusing_of}
+use Rattle.hw_base.specs.TaggedAddress.{address_of}
+use Rattle.hw_driver.specs.Tags.{global_start, global_pointer, is_of_global, is_of_stacks_or_heap, refusing_of}
 
 -- the tag in the global's pointer, the shadow and the bytes from the global's start on, what was printed, and how many steps
 -- were taken
@@ -71,8 +72,8 @@ machine_load m number =
     on_check m Read number (record m { output = m.output ++ byte_at m.bytes (address_of number) ∷ []; step = m.step + 3 }) (check m number)
 
 abbrev pub machine_step : MachineState → Group → MachineStep
-machine_step m (Store value offset) = machine_store m value (tagged_address m.tag offset)
-machine_step m (Load offset) = machine_load m (tagged_address m.tag offset)
+machine_step m (Store value offset) = machine_store m value (global_pointer m.tag offset)
+machine_step m (Load offset) = machine_load m (global_pointer m.tag offset)
 
 -- how a run ends, with its output: at the return of 0 in the last step, or at a failed check
 pub data MachineEnding : Type 0 where

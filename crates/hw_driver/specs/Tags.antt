@@ -1,23 +1,18 @@
 -- Tags in pointers and memory (Clang, "Hardware-assisted AddressSanitizer Design Documentation"; Arm Architecture Reference
 -- Manual, "Top Byte Ignore"). The address map is this project's choice.
-use Rattle.std.specs.Prelude.{ℕ, ◌+◌, ◌-◌, ◌*◌, ◌/◌, ◌%◌, ◌^◌, Bool, ◌&&◌, ◌||◌, nat_le, nat_lt, ◌==◌, if◌then◌else◌, Option, Some, None, List, length, slice_index}
-use Rattle.hw_driver.specs.declared.machine.Mismatch.{Mismatch}
-use Rattle.hw_driver.specs.declared.machine.Mismatch.TheVariants.{Unmapped, Tags}
+use Rattle.std.specs.Prelude.{ℕ, ◌+◌, ◌-◌, ◌*◌, ◌/◌, ◌%◌, ◌^◌, Bool, ◌&&◌, ◌||◌, nat_le, nat_lt, if◌then◌else◌, Option, Some, None, List, length, slice_index}
+use Rattle.hw_base.specs.TaggedAddress.{address_of, pointer_tag, tagged_address}
+use Rattle.hw_shadow.specs.TagRule.{tags_agree}
+use Rattle.hw_shadow.specs.declared.mismatch.Mismatch.{Mismatch}
+use Rattle.hw_shadow.specs.declared.mismatch.Mismatch.TheVariants.{Unmapped, Tags}
 
 -- the address of the first byte of the global
 abbrev pub global_start : ℕ
 global_start = 2 ^ 16
 
--- The tagged address of the byte at an offset of the global: the tag in the top byte of 64 bits, the address below.
-abbrev pub tagged_address : ℕ → ℕ → ℕ
-tagged_address tag offset = (tag * 2 ^ 56 + global_start + offset) % 2 ^ 64
-
--- the tag of a pointer, and its address
-abbrev pub pointer_tag : ℕ → ℕ
-pointer_tag number = number / 2 ^ 56
-
-abbrev pub address_of : ℕ → ℕ
-address_of number = number % 2 ^ 56
+-- the number of the pointer to the byte at an offset of the global
+abbrev pub global_pointer : ℕ → ℕ → ℕ
+global_pointer tag offset = tagged_address tag (global_start + offset)
 
 -- an address from `first` on and below `end`
 abbrev pub is_within : ℕ → ℕ → ℕ → Bool
@@ -30,11 +25,6 @@ is_of_global size address = is_within global_start (global_start + size) address
 -- the other mapped addresses: 64 stacks of 256 KiB, and a heap of 16 MiB
 abbrev pub is_of_stacks_or_heap : ℕ → Bool
 is_of_stacks_or_heap address = is_within (2 ^ 28) (2 ^ 28 + 2 ^ 24) address || is_within (2 ^ 29) (2 ^ 29 + 2 ^ 24) address
-
--- The tags agree: the pointer's tag is the memory tag; or the memory tag is the size of a short granule, the access ends
--- within it, and the pointer's tag is the last byte of the granule.
-abbrev pub tags_agree : ℕ → ℕ → ℕ → ℕ → Bool
-tags_agree pointer memory end last = (pointer == memory) || (nat_le 1 memory && nat_le memory 15 && (nat_le end memory && (pointer == last)))
 
 -- one more than the position of an address in its granule
 abbrev pub end_in_granule : ℕ → ℕ

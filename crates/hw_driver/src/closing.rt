@@ -2,8 +2,9 @@ ghost use Rattle.std.specs.Prelude.{◌≡◌, ◌++◌, IfOk, string_bytes};
 ghost use Rattle.hw_driver.specs.Closing.{access_word, access_line, access_text, chain_text, place_text, pointer_text, memory_text, end_text, granule_text, unmapped_line, found_line, report_lines, ended_line, unsupported_line};
 ghost use Rattle.hw_driver.specs.Views.{failed_view};
 
-use crate::machine::{FailedCheck, Mismatch};
+use crate::machine::FailedCheck;
 use hw_base::{Access, ByteList, OutOfMemory};
+use hw_shadow::Mismatch;
 use ir_core::{Fault, Refusal};
 use std::alloc::Global;
 
@@ -111,9 +112,13 @@ fn found_line(alloc: Global, found: Mismatch) -> Result<String, OutOfMemory>
 {
     match found {
         Mismatch::Unmapped(address) => unmapped_line(alloc, address),
-        Mismatch::Tags(granule, pointer, memory, last, end) => {
-            tags_line(alloc, granule, pointer, memory, last, end)
-        }
+        Mismatch::Tags {
+            granule,
+            pointer,
+            memory,
+            last,
+            end,
+        } => tags_line(alloc, granule, pointer, memory, last, end),
     }
 }
 

@@ -1,9 +1,10 @@
 ghost use Rattle.std.specs.Prelude.{◌≡◌, ◌<◌, ◌≤◌, ◌+◌, ◌-◌, ◌*◌, ◌^◌, ◌%◌, ℕ, List, length, option_map};
-ghost use Rattle.hw_driver.specs.declared.machine.Mismatch.{Mismatch};
-ghost use Rattle.hw_driver.specs.Tags.{tagged_address, is_within, is_of_global, is_of_stacks_or_heap, tags_agree, mismatch_at, address_of, end_in_granule, refusing_of};
+ghost use Rattle.hw_shadow.specs.TagRule.{tags_agree};
+ghost use Rattle.hw_driver.specs.Tags.{global_pointer, is_within, is_of_global, is_of_stacks_or_heap, mismatch_at, end_in_granule, refusing_of};
 ghost use Rattle.hw_driver.specs.Machine.{shadow_tag, byte_at, set_byte};
 
 use hw_base::Access;
+use hw_shadow::Mismatch;
 
 const GLOBAL_START: u64 = 0x1_0000;
 
@@ -14,15 +15,6 @@ const HEAP_START: u64 = 0x2000_0000;
 const STACKS_LEN: u64 = 64 * 0x4_0000;
 
 const HEAP_LEN: u64 = 0x100_0000;
-
-/// What a failed check found: the first address isn't mapped, or the tags don't agree. A granule is named by the address
-/// of its first byte, and the end is one more than the position of the last touched byte in it.
-#[derive(Clone, Copy)]
-pub enum Mismatch {
-    Unmapped(u64),
-    /// Granule, pointer tag, memory tag, last byte and end.
-    Tags(u64, u8, u8, u8, u8),
-}
 
 /// An access that a check refused: its size in bytes, its number, its task and step, and what was found.
 #[derive(Clone, Copy)]
@@ -36,8 +28,8 @@ pub struct FailedCheck {
 }
 
 // The tagged address of the byte at an offset of the global.
-pub fn tagged_address(tag: u8, offset: u32) -> u64
-    ensures { result ≡ tagged_address tag offset }
+pub fn global_pointer(tag: u8, offset: u32) -> u64
+    ensures { result ≡ global_pointer tag offset }
 {
     let number = (tag as u128) * (1 << 56) + (GLOBAL_START as u128) + (offset as u128);
     (number % (1 << 64)) as u64
@@ -82,7 +74,13 @@ fn mismatch_at(number: u64, memory: Option<u8>, last: u8) -> Option<Mismatch>
     if tags_agree(pointer, memory, end, last) {
         None
     } else {
-        Some(Mismatch::Tags(address / 16 * 16, pointer, memory, last, end))
+        Some(Mismatch::Tags {
+            granule: address / 16 * 16,
+            pointer,
+            memory,
+            last,
+            end,
+        })
     }
 }
 

@@ -2,7 +2,7 @@ ghost use Rattle.std.specs.Prelude.{◌≡◌, ◌<◌, ◌≤◌, ◌+◌, ◌^
 ghost use Rattle.hw_driver.specs.Machine.{machine_start, machine_step, machine_store, machine_load, machine_run, failed_check, check};
 ghost use Rattle.hw_driver.specs.Views.{step_view, ran_view, program_view, failed_view};
 
-use crate::machine::{FailedCheck, byte_at, check_byte, set_byte, tagged_address};
+use crate::machine::{FailedCheck, byte_at, check_byte, global_pointer, set_byte};
 use crate::program::{Group, Program};
 use crate::runner::{Ending, Ran};
 use hw_base::{Access, ByteList, OutOfMemory};
@@ -106,11 +106,11 @@ impl Machine {
     {
         match group {
             Group::Store(value, offset) => {
-                let number = tagged_address(self.tag, offset);
+                let number = global_pointer(self.tag, offset);
                 Ok(self.store(value, number))
             }
             Group::Load(offset) => {
-                let number = tagged_address(self.tag, offset);
+                let number = global_pointer(self.tag, offset);
                 self.load(number)
             }
         }

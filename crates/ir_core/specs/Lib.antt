@@ -4,3 +4,7 @@ pub mod Refusals
 pub mod Spelling
 pub mod Tokenisation
 pub mod Tokens
+pub mod Layout
+pub mod Externals
+pub mod Resolved
+pub mod Progress

@@ -3,18 +3,24 @@
 //! these types and answer these refusals; the checks and runs above them read the module.
 #![tactic(auto)]
 
+mod all_layouts;
+mod externals;
 mod faults;
 mod ir_module;
 mod lib_functions;
 mod lists;
 mod meta;
+mod module_sizes;
 mod operands;
 mod operations;
 mod refusals;
 mod token;
 mod token_list;
+mod type_layouts;
 mod types;
 
+pub use all_layouts::layouts;
+pub use externals::external;
 pub use faults::{Fault, Limit};
 pub use ir_module::{
     Block, BlockList, DbgRef, Declare, DeclareList, Function, FunctionList, GlobalList, GlobalVar,

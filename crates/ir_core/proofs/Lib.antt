@@ -1,0 +1,5 @@
+pub mod Capping
+pub mod Deepening
+pub mod Decimals
+pub mod Names
+pub mod Offsets

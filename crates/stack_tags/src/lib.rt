@@ -1,0 +1,12 @@
+//! Frames of variables with tags: where a frame's variables stand and with which tags, what memory is when a function is
+//! entered and left, and which ended frames a task remembers. The layers above ask for a variable's tagged address, and
+//! list living and ended frames for reports.
+#![tactic(auto)]
+
+mod examples;
+mod frame_record;
+mod laws;
+
+pub use examples::frames_by_example;
+pub use frame_record::FrameRecord;
+pub use laws::{a_frame_ends_at_the_one_before, frames_stay_inside, leaving_undoes_entering};
