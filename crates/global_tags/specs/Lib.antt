@@ -1,0 +1,3 @@
+pub mod GlobalBytes
+pub mod GlobalPlaces
+pub mod SmallGlobals
