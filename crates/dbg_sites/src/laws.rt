@@ -1,0 +1,30 @@
+ghost use Rattle.dbg_sites.specs.ChainTable.{ChainEntry, IsChainTable, chain_of, pushed};
+ghost use Rattle.hw_base.specs.declared.pointers.Site.{Site};
+ghost use Rattle.std.specs.Prelude.{◌≡◌, ℕ, ◌≤◌, List, [], ◌∷◌, length};
+
+/// A site put in front of a chain gives the number of that chain, and all earlier numbers keep their chains.
+pub fn pushing_puts_a_site_in_front()
+    ensures front { (table : List ChainEntry) (rest : ℕ) (site : Site) → IsChainTable table → rest ≤ length table
+        → chain_of (pushed table rest site).table (pushed table rest site).number ≡ site ∷ chain_of table rest }
+    ensures earlier { (table : List ChainEntry) (rest : ℕ) (site : Site) (number : ℕ) → IsChainTable table → number ≤ length table
+        → chain_of (pushed table rest site).table number ≡ chain_of table number }
+    ensures within { (table : List ChainEntry) (rest : ℕ) (site : Site) → (pushed table rest site).number ≤ length (pushed table rest site).table }
+    ensures table { (table : List ChainEntry) (rest : ℕ) (site : Site) → IsChainTable table → rest ≤ length table
+        → IsChainTable (pushed table rest site).table }
+    ensures start { IsChainTable [] }
+{}
+
+/// Two numbers of a table are equal where their chains are.
+pub fn equal_numbers_are_equal_chains()
+    ensures { (table : List ChainEntry) (number other : ℕ) → IsChainTable table → number ≤ length table → other ≤ length table
+        → chain_of table number ≡ chain_of table other → number ≡ other }
+{}
+
+/// A site in front of the empty chain, and another in front of that; putting the first there once more gives its number.
+pub fn chains_by_example()
+    ensures first { (pushed [] 0 (record { func = 1; inst = 2 })).number ≡ 1 }
+    ensures second { chain_of (pushed (pushed [] 0 (record { func = 1; inst = 2 })).table 1 (record { func = 0; inst = 5 })).table 2
+        ≡ record { func = 0; inst = 5 } ∷ record { func = 1; inst = 2 } ∷ [] }
+    ensures again { (pushed (pushed (pushed [] 0 (record { func = 1; inst = 2 })).table 1 (record { func = 0; inst = 5 })).table 0 (record { func = 1; inst = 2 })).number
+        ≡ 1 }
+{}

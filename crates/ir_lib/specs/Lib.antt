@@ -1,0 +1,3 @@
+pub mod ByteOrder
+pub mod SmallStrings
+pub mod Strings
