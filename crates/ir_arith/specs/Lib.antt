@@ -1,3 +1,4 @@
+pub mod Atomics
 pub mod TwosComplement
 pub mod Binary
 pub mod Comparison

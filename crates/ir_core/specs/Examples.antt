@@ -1,7 +1,7 @@
 -- Small modules as values, on which the definitions of runs are shown by evaluation. Above each stands its text, in the
 -- syntax of the LLVM Language Reference; the modules are this project's choice. All of them share one list of types, and
 -- no place in them means anything.
-use Rattle.std.specs.Prelude.{ℕ, ◌-◌, ◌^◌, Bool, true, false, List, [], ◌∷◌, Option, Some, None, codes}
+use Rattle.std.specs.Prelude.{ℕ, ◌-◌, ◌^◌, true, false, List, [], ◌∷◌, Some, None, codes}
 use Rattle.hw_base.specs.declared.operators.BinOp.TheVariants.{SDiv}
 use Rattle.hw_base.specs.declared.operators.CastOp.TheVariants.{ZExt}
 use Rattle.ir_core.specs.declared.refusals.Place.{Place}
@@ -12,14 +12,12 @@ use Rattle.ir_core.specs.declared.types.TypeLayout.TheVariants.{Known, NoSize}
 use Rattle.ir_core.specs.declared.operands.Operand.{Operand}
 use Rattle.ir_core.specs.declared.operands.Operand.TheVariants.{Reg, Int as Literal, Null, Global}
 use Rattle.ir_core.specs.declared.operands.Placed.{Placed}
-use Rattle.ir_core.specs.declared.operands.StartArg.{StartArg}
 use Rattle.ir_core.specs.declared.operations.Op.{Op}
 use Rattle.ir_core.specs.declared.operations.Op.TheVariants.{Binary, Cast, Alloca, Load, Store, Gep, Call, CallLib, Ret, Unreachable}
 use Rattle.ir_core.specs.declared.lib_functions.Lib.{Lib}
 use Rattle.ir_core.specs.declared.lib_functions.Lib.TheVariants.{Malloc, Free, Putchar, PthreadCreate}
 use Rattle.ir_core.specs.declared.ir_module.GlobalVar.{GlobalVar}
 use Rattle.ir_core.specs.declared.ir_module.Inst.{Inst}
-use Rattle.ir_core.specs.declared.ir_module.Block.{Block}
 use Rattle.ir_core.specs.declared.ir_module.Function.{Function}
 use Rattle.ir_core.specs.declared.ir_module.Declare.{Declare}
 use Rattle.ir_core.specs.declared.ir_module.Module.{Module}
@@ -221,7 +219,7 @@ uses_a_freed_block =
 abbrev pub returns_its_variable : Function
 returns_its_variable =
     straight_function (codes "f") 0 ptr_type (ptr_type ∷ []) (16 ∷ []) 2
-      (defines 0 (Alloca 0 sixteen_bytes_type None) ∷ effect (Ret (Some (ptr_register 0))) ∷ [])
+    (defines 0 (Alloca 0 sixteen_bytes_type None) ∷ effect (Ret (Some (ptr_register 0))) ∷ [])
 
 -- define i8 @g(ptr %p) {
 --   %b = alloca [16 x i8]
@@ -231,7 +229,7 @@ returns_its_variable =
 abbrev pub loads_its_argument : Function
 loads_its_argument =
     straight_function (codes "g") 1 i8_type (ptr_type ∷ ptr_type ∷ i8_type ∷ []) (16 ∷ []) 3
-      (defines 1 (Alloca 0 sixteen_bytes_type None) ∷ load_byte 2 0 ∷ effect (Ret (Some (i8_register 2))) ∷ [])
+    (defines 1 (Alloca 0 sixteen_bytes_type None) ∷ load_byte 2 0 ∷ effect (Ret (Some (i8_register 2))) ∷ [])
 
 -- A read of a variable after its function returned, in another function's frame; f and g are as above:
 -- define i32 @main() {
@@ -242,12 +240,12 @@ loads_its_argument =
 abbrev pub uses_a_returned_variable : Module
 uses_a_returned_variable =
     example_module []
-      (returns_its_variable
-       ∷ loads_its_argument
-       ∷ main_function (ptr_type ∷ i8_type ∷ []) 3
-           (defines 0 (Call 0 ptr_type []) ∷ defines 1 (Call 1 i8_type (ptr_register 0 ∷ [])) ∷ return_zero ∷ [])
-       ∷ [])
-      2
+    (returns_its_variable
+    ∷ loads_its_argument
+    ∷ main_function (ptr_type ∷ i8_type ∷ []) 3
+    (defines 0 (Call 0 ptr_type []) ∷ defines 1 (Call 1 i8_type (ptr_register 0 ∷ [])) ∷ return_zero ∷ [])
+    ∷ [])
+    2
 
 -- A write before a block, which reaches the block before it:
 -- define i32 @main() {
@@ -262,14 +260,14 @@ uses_a_returned_variable =
 abbrev pub writes_before_a_block : Module
 writes_before_a_block =
     main_alone (ptr_type ∷ ptr_type ∷ ptr_type ∷ ptr_type ∷ []) 7
-      (call_malloc 0 16
-       ∷ bytes_behind 1 0 15
-       ∷ store_byte 42 1
-       ∷ call_malloc 2 16
-       ∷ bytes_behind 3 2 (2 ^ 64 - 16)
-       ∷ store_byte 7 3
-       ∷ return_zero
-       ∷ [])
+    (call_malloc 0 16
+    ∷ bytes_behind 1 0 15
+    ∷ store_byte 42 1
+    ∷ call_malloc 2 16
+    ∷ bytes_behind 3 2 (2 ^ 64 - 16)
+    ∷ store_byte 7 3
+    ∷ return_zero
+    ∷ [])
 
 -- define ptr @w(ptr %p) {
 --   call void @free(ptr %p)
@@ -296,14 +294,14 @@ task_number_variable =
 abbrev pub races_for_a_block : Module
 races_for_a_block =
     example_module (task_number_variable ∷ [])
-      (frees_its_argument
-       ∷ main_function (ptr_type ∷ i32_type ∷ i8_type ∷ i32_type ∷ i32_type ∷ []) 6
-           (call_malloc 0 16
-            ∷ defines 1 (CallLib 3 i32_type (start_of_global 0 ∷ null_pointer ∷ ptr_register 0 ∷ []) (Some (record { func = 0; ty = ptr_type; place = nowhere })))
-            ∷ load_byte 2 0
-            ∷ defines 3 (Cast ZExt (i8_register 2) i32_type)
-            ∷ call_putchar 4 3
-            ∷ return_zero
-            ∷ [])
-       ∷ [])
-      1
+    (frees_its_argument
+    ∷ main_function (ptr_type ∷ i32_type ∷ i8_type ∷ i32_type ∷ i32_type ∷ []) 6
+    (call_malloc 0 16
+    ∷ defines 1 (CallLib 3 i32_type (start_of_global 0 ∷ null_pointer ∷ ptr_register 0 ∷ []) (Some (record { func = 0; ty = ptr_type; place = nowhere })))
+    ∷ load_byte 2 0
+    ∷ defines 3 (Cast ZExt (i8_register 2) i32_type)
+    ∷ call_putchar 4 3
+    ∷ return_zero
+    ∷ [])
+    ∷ [])
+    1

@@ -1,5 +1,7 @@
+pub mod Blocks
 pub mod Examples
 pub mod Faults
+pub mod Layout
 pub mod Refusals
 pub mod Spelling
 pub mod Tokenisation

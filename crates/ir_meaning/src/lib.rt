@@ -1,0 +1,12 @@
+//! What a module of LLVM IR means, with no tag and no address: objects and offsets, the access rule, one step of a task
+//! and the run of all tasks, as definitions that every engine and the detection theorem are proved against. Its
+//! functions do nothing when they run: they carry examples shown by evaluation, and laws of the definitions.
+#![tactic(auto)]
+
+mod examples;
+mod laws;
+mod programs;
+
+pub use examples::{exits_and_traps, turns_of_two_tasks, violations};
+pub use laws::{runs_under_bounds, what_is_dead_stays, what_was_written_is_read};
+pub use programs::small_programs;
