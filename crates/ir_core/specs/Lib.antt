@@ -6,7 +6,6 @@ pub mod Refusals
 pub mod Spelling
 pub mod Tokenisation
 pub mod Tokens
-pub mod Layout
 pub mod Externals
 pub mod Resolved
 pub mod Progress

@@ -9,7 +9,7 @@ use Rattle.ir_core.specs.declared.ir_module.Block.{Block}
 use Rattle.ir_core.specs.declared.ir_module.Inst.{Inst}
 use Rattle.ir_core.specs.declared.ir_module.Function.{Function}
 use Rattle.ir_core.specs.declared.ir_module.Module.{Module}
-use Rattle.mi_code.specs.EdgeMoves.{block_holding}
+use Rattle.ir_core.specs.Blocks.{block_holding}
 use Rattle.mi_code.specs.SourceCode.{source_code}
 use Rattle.mi_code.specs.TagChecks.{added_code, enter_code}
 use Rattle.mi_code.specs.Instrumentation.{own_length, instruction_length, code_length, place_of, later_starts, starts_by, starts_of, entry_mi, added_mi, source_mi, code_of_instruction, code_from, code_of_function}

@@ -1,6 +1,6 @@
 -- The edges between blocks, and the moves that stand on them for the phis of the block where they lead (LLVM Language
 -- Reference, "'phi' Instruction"): all phis are read on the edge, at once.
-use Rattle.std.specs.Prelude.{ℕ, suc, ◌+◌, ◌==◌, nat_lt, if◌then◌else◌, List, [], ◌∷◌, ◌++◌, take, drop, slice_get, slice_index, Option, Some, None}
+use Rattle.std.specs.Prelude.{ℕ, ◌==◌, if◌then◌else◌, List, [], ◌∷◌, ◌++◌, slice_get, slice_index, Option, Some, None}
 use Rattle.ir_core.specs.declared.operands.PhiEntry.{PhiEntry}
 use Rattle.ir_core.specs.declared.operands.Case.{Case}
 use Rattle.ir_core.specs.declared.operations.Op.{Op}
@@ -8,24 +8,19 @@ use Rattle.ir_core.specs.declared.operations.Op.TheVariants as source
 use Rattle.ir_core.specs.declared.ir_module.Block.{Block}
 use Rattle.ir_core.specs.declared.ir_module.Inst.{Inst}
 use Rattle.ir_core.specs.declared.ir_module.Function.{Function}
+use Rattle.ir_core.specs.Blocks.{phis_of}
 use Rattle.mi_code.specs.declared.edges.Edge.{Edge}
 use Rattle.mi_code.specs.declared.edges.Move.{Move}
 use Rattle.mi_code.specs.declared.edges.MiCase.{MiCase}
 use Rattle.mi_code.specs.MachineOperands.{operand_of, constant_of, result_register}
 
--- the number of the block that holds instruction number i
-unfoldable pub block_holding : List Block → ℕ → ℕ
-block_holding [] i = 0
-block_holding (block ∷ blocks) i =
-    if nat_lt i (block.first + block.count) then 0 else suc (block_holding blocks i)
-
--- the phis of a block
+-- the phis of the block with a number
 abbrev pub phis_by : List Inst → Option Block → List Inst
 phis_by insts None = []
-phis_by insts (Some block) = take block.phis (drop block.first insts)
+phis_by insts (Some block) = phis_of insts block
 
-abbrev pub phis_of : Function → ℕ → List Inst
-phis_of f block = phis_by f.insts (slice_get f.blocks block)
+abbrev pub phis_at : Function → ℕ → List Inst
+phis_at f block = phis_by f.insts (slice_get f.blocks block)
 
 -- the move of one phi's value, by its entries: the entry for the block that control comes from
 unfoldable pub entry_move : ℕ → Option ℕ → List PhiEntry → List Move
@@ -45,7 +40,7 @@ phi_moves from (phi ∷ phis) = phi_move from phi.result phi.op ++ phi_moves fro
 
 -- the edge from one block to another: the place of the first machine instruction there, and the moves for its phis
 abbrev pub edge_to : Function → List ℕ → ℕ → ℕ → Edge
-edge_to f starts from to = record { place = slice_index starts to; moves = phi_moves from (phis_of f to) }
+edge_to f starts from to = record { place = slice_index starts to; moves = phi_moves from (phis_at f to) }
 
 -- the cases of a switch
 unfoldable pub case_edges : Function → List ℕ → ℕ → List Case → List MiCase

@@ -13,7 +13,7 @@ use Rattle.mi_code.specs.declared.operations.MiOp.{MiOp}
 use Rattle.mi_code.specs.declared.code_functions.CodeFunction.{CodeFunction}
 use Rattle.mi_code.specs.declared.code_functions.Mark.TheVariants.{Entry, Added, Source}
 use Rattle.mi_code.specs.declared.code_functions.Mi.{Mi}
-use Rattle.mi_code.specs.EdgeMoves.{block_holding}
+use Rattle.ir_core.specs.Blocks.{block_holding}
 use Rattle.mi_code.specs.SourceCode.{source_code}
 use Rattle.mi_code.specs.TagChecks.{added_code, enter_code}
 

@@ -1,5 +1,5 @@
 use Rattle.std.proofs.Common.{refl}
-use Rattle.mi_code.specs.EdgeMoves.{block_holding}
+use Rattle.ir_core.specs.Blocks.{block_holding}
 use Rattle.mi_code.specs.IndexSteps.{inner_steps}
 use Rattle.mi_code.specs.Instrumentation.{code_from, code_of_function, code_of_instruction, functions_from, later_starts}
 use Rattle.mi_code.proofs.laws.an_example_of_instrumented_code.Goals as goal
