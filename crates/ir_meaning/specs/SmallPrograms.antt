@@ -8,12 +8,10 @@ use Rattle.ir_core.specs.declared.types.IrType.TheVariants.{Array}
 use Rattle.ir_core.specs.declared.types.TypeLayout.TheVariants.{Known}
 use Rattle.ir_core.specs.declared.operands.Operand.TheVariants.{Reg, Int as Literal}
 use Rattle.ir_core.specs.declared.operands.Part.{Part}
-use Rattle.ir_core.specs.declared.operands.PhiEntry.{PhiEntry}
 use Rattle.ir_core.specs.declared.operations.Op.TheVariants.{Phi, Binary, Icmp, Cast, Alloca, Load, Store, CallLib, Br, BrIf, Ret}
 use Rattle.ir_core.specs.declared.lib_functions.Lib.TheVariants.{Malloc, Memcpy, Puts, MutexLock}
 use Rattle.ir_core.specs.declared.ir_module.GlobalVar.{GlobalVar}
 use Rattle.ir_core.specs.declared.ir_module.Inst.{Inst}
-use Rattle.ir_core.specs.declared.ir_module.Function.{Function}
 use Rattle.ir_core.specs.declared.ir_module.Module.{Module}
 use Rattle.ir_core.specs.Examples.{nowhere, i8_type, i32_type, i64_type, ptr_type, example_types, example_layouts, placed, i32_literal, i64_literal, i32_register, ptr_register, start_of_global, effect, defines, declared_function, return_zero, call_malloc, load_byte, straight_function, main_function, example_module}
 

@@ -1,0 +1,15 @@
+pub mod ArithmeticSteps
+pub mod BlockSteps
+pub mod CheckSteps
+pub mod ControlSteps
+pub mod ExampleRuns
+pub mod InstructionStep
+pub mod LibraryCalls
+pub mod LibrarySteps
+pub mod MachineEndings
+pub mod MachineNumbers
+pub mod MachineRun
+pub mod MachineStart
+pub mod MachineState
+pub mod MemorySteps
+pub mod TaskSteps

@@ -1,0 +1,15 @@
+//! The machine that runs instrumented code: memory with tags, blocks, frames, globals and tasks, a step of one task by each
+//! machine instruction, and whole runs by turn words. So far it is a definition, with its laws and examples; the machine's
+//! code is proved to be this run, and reports are made from its endings.
+#![tactic(auto)]
+
+mod examples;
+mod found;
+mod laws;
+
+pub use examples::{
+    a_heap_overflow_is_reported, a_use_after_free_is_reported, a_use_after_return_is_reported,
+    a_written_last_byte_hides_an_overflow, runs_exit_and_trap, turn_words_decide_a_race,
+};
+pub use found::{Found, Raw};
+pub use laws::runs_go_on;

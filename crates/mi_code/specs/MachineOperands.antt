@@ -1,0 +1,49 @@
+-- The machine registers and operands that stand for those of the source. A pointer is its 64-bit number, and null is 0.
+-- This project's choice.
+use Rattle.std.specs.Prelude.{ℕ, zero, suc, ◌*◌, List, [], ◌∷◌, map, Option, Some, None}
+use Rattle.ir_core.specs.declared.operands.Operand.{Operand}
+use Rattle.ir_core.specs.declared.operands.Operand.TheVariants.{Reg, Int, Null, Global}
+use Rattle.ir_core.specs.declared.operands.Placed.{Placed}
+use Rattle.mi_code.specs.declared.operands.MiOperand.{MiOperand}
+use Rattle.mi_code.specs.declared.operands.MiOperand.TheVariants.{Reg as MachineRegister, Num, Global as GlobalAddress}
+
+-- the machine register of a register. The one after it holds the bit of a pair
+abbrev pub machine_register : ℕ → ℕ
+machine_register r = 2 * r
+
+-- the machine operand of an operand
+abbrev pub machine_operand : Operand → MiOperand
+machine_operand (Reg r) = MachineRegister (machine_register r)
+machine_operand (Int n) = Num n
+machine_operand Null = Num 0
+machine_operand (Global global off) = GlobalAddress global off
+
+abbrev pub operand_of : Placed → MiOperand
+operand_of placed = machine_operand placed.operand
+
+abbrev pub operands_of : List Placed → List MiOperand
+operands_of args = map operand_of args
+
+-- an argument by its place, counted from 0; a call that was accepted has it
+abbrev pub argument : List Placed → ℕ → MiOperand
+argument [] k = Num 0
+argument (arg ∷ args) zero = operand_of arg
+argument (arg ∷ args) (suc k) = argument args k
+
+-- the number that a constant operand is
+abbrev pub constant_number : Operand → ℕ
+constant_number (Int n) = n
+constant_number _ = 0
+
+abbrev pub constant_of : Placed → ℕ
+constant_of placed = constant_number placed.operand
+
+-- the machine register of an instruction's result; an instruction that gives a value has one
+abbrev pub result_register : Option ℕ → ℕ
+result_register None = 0
+result_register (Some r) = machine_register r
+
+-- the machine register of a call's result, where it has one
+abbrev pub call_result : Option ℕ → Option ℕ
+call_result None = None
+call_result (Some r) = Some (machine_register r)
