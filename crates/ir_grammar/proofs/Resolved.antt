@@ -80,7 +80,8 @@ resolved_as kept Subprogram fs = record { scope = tt; inlined = tt; file = node_
 resolved_as kept File fs = record { scope = tt; inlined = tt; file = tt }
 resolved_as kept Other fs = record { scope = node_there kept (map (node_of kept) kept) (length-map kept (node_of kept)) fs _; inlined = tt; file = node_there kept (map (node_of kept) kept) (length-map kept (node_of kept)) fs _ }
 
-all_resolved_of : (kept : List Definition) → All (IsResolved (map (node_of kept) kept)) (map (node_of kept) kept)
+-- what any definitions say together is resolved
+pub all_resolved_of : (kept : List Definition) → All (IsResolved (map (node_of kept) kept)) (map (node_of kept) kept)
 all_resolved_of kept = all_map (node_of kept) (IsResolved (map (node_of kept) kept)) (λ d. resolved_as kept d.kind d.fields) kept
 
 pub all_resolved : (source : List ℕ) (tokens : List Token) → All (IsResolved (kept_nodes source tokens)) (kept_nodes source tokens)

@@ -1,0 +1,4 @@
+pub mod Bounds
+pub mod Index
+pub mod Texts
+pub mod Values
