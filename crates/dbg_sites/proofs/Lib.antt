@@ -1,1 +1,5 @@
+pub mod Bounds
 pub mod ChainLemmas
+pub mod Index
+pub mod Texts
+pub mod Values

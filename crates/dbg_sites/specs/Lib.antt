@@ -1,1 +1,2 @@
 pub mod ChainTable
+pub mod Read

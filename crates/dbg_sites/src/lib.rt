@@ -1,7 +1,19 @@
-//! Chains of sites of instructions, kept as numbers: the empty chain is 0, and every other one is an entry of a table, with
-//! its front site and the number of the rest. The layers above record a chain by its number.
+//! Where in the source an instruction stands: the metadata nodes that a text keeps, read by `read_meta`, and chains of sites of
+//! instructions, kept as numbers: the empty chain is 0, and every other one is an entry of a table, with its front site and
+//! the number of the rest. The layers above follow scopes and inlined calls from the nodes to the function, file, line and
+//! column of an instruction, and record a chain by its number.
 #![tactic(auto)]
 
+mod definitions;
+mod fields;
 mod laws;
+mod node_text;
+mod nodes;
+mod numbers;
+mod token_tests;
 
 pub use laws::{chains_by_example, equal_numbers_are_equal_chains, pushing_puts_a_site_in_front};
+pub use nodes::read_meta;
+
+#[cfg(test)]
+mod node_tests;

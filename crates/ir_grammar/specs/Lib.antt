@@ -1,0 +1,3 @@
+pub mod DebugFields
+pub mod DebugNodes
+pub mod DebugText
