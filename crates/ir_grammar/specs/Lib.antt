@@ -1,0 +1,11 @@
+pub mod Attributes
+pub mod Constants
+pub mod Grammar
+pub mod Kinds
+pub mod Names
+pub mod Reading
+pub mod Rules
+pub mod Skipped
+pub mod Spelled
+pub mod Types
+pub mod Words

@@ -1,0 +1,18 @@
+//! The grammar of the accepted text, between its tokens and the readers of items, bodies and metadata: what a production
+//! is, what reading by one answers, and the laws of both; the kinds of tokens that the grammar decides by; and the
+//! productions that all readers share, of types, attributes, values, constants and skipped runs, with the code that reads
+//! them. The readers above say of each of their own methods which production it reads, and rely on the laws.
+#![tactic(auto)]
+
+mod context;
+mod kind;
+mod reader;
+mod spelled;
+mod terminal;
+mod types;
+
+pub use context::Context;
+pub use kind::Kind;
+pub use reader::{Reader, Spellings};
+pub use spelled::{SpelledConstant, SpelledInteger, SpelledType, TypedConstant, TypedIndex};
+pub use terminal::{Failure, Flaw, Terminal};
