@@ -25,3 +25,8 @@ bind_value r f x h = rw h refl
 -- what is read behind a flaw
 pub bind_flaw : {A B : Type 0} (r : Result A Flaw) (f : A → Result B Flaw) (e : Flaw) → r ≡ Err e → (r >>= f) ≡ Err e
 bind_flaw r f e h = rw h refl
+
+-- the same behind the same value
+pub bind_same : {A B : Type 0} (r : Result A Flaw) (f g : A → Result B Flaw) → ((x : A) → r ≡ Ok x → f x ≡ g x) → (r >>= f) ≡ (r >>= g)
+bind_same (Ok x) f g h = h x refl
+bind_same (Err e) f g h = refl

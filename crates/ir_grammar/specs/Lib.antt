@@ -1,4 +1,5 @@
 pub mod Attributes
+pub mod Conditions
 pub mod Constants
 pub mod Grammar
 pub mod Kinds
