@@ -1,5 +1,11 @@
+pub mod AttributeLists
+pub mod Complete
 pub mod First
 pub mod KindSets
+pub mod Levels
 pub mod Loops
 pub mod Outcomes
+pub mod SkippedRuns
 pub mod Sound
+pub mod TypeKinds
+pub mod TypeLists

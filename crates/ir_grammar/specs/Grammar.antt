@@ -3,9 +3,10 @@ use Rattle.std.specs.Prelude.{ℕ, zero, suc, List, ◌++◌, ◌≡◌, Result,
 use Rattle.ir_grammar.specs.declared.terminal.Failure.{Failure}
 use Rattle.ir_grammar.specs.declared.terminal.Failure.TheVariants as failures
 use Rattle.ir_grammar.specs.declared.terminal.Flaw.{Flaw}
+use Rattle.ir_grammar.specs.declared.reader.Reader.{Reader}
 use Rattle.ir_grammar.specs.Rules.{Sort, Rule, Value}
 use Rattle.ir_grammar.specs.Reading.{Outcome, ◌>>=◌, Reading, read_in, inside, too_deep}
-use Rattle.ir_grammar.specs.Spelled.{Store}
+use Rattle.ir_grammar.specs.Spelled.{Store, store_of}
 use Rattle.ir_grammar.specs.Names.{Base, Name, array_inside, types_inside, elements_inside, address_inside, any_inside, sort_of, shared, Production}
 use Rattle.ir_grammar.specs.Skipped.{any_run}
 use Rattle.ir_grammar.specs.Types.{array_rule, types_rule}
@@ -45,3 +46,9 @@ Fails (failures.Flawed flaw) read = read ≡ Err flaw
 abbrev pub Gives : {X Y : Type 0} → (X → Y) → Result X Failure → Result Y Flaw → Type 0
 Gives view (Ok x) read = read ≡ Ok (view x)
 Gives view (Err e) read = Fails e read
+
+-- what a method of a reader answered, seen by view, and what the reader then is, are the reading of this rule, unless
+-- memory ran out
+abbrev pub Reads : {X : Type 0} {s : Sort Base} → (X → Value shared s) → Result X Failure → Reader → Reader → ℕ → Production s → Type 0
+Reads view result old new levels rule =
+    Gives (λ x. (view x, new.rest.now, store_of new.found)) result (read levels rule old.rest.now (store_of old.found))

@@ -23,16 +23,21 @@ unfoldable pub array_type : Context → Production (base number)
 array_type c = between k.OpenSquare (array_inside c) k.CloseSquare
 
 -- { types }
-unfoldable pub struct_type : Context → Production (base number)
-struct_type c = act (λ found. add_struct_type false found) (between k.OpenBrace (types_inside c) k.CloseBrace)
+unfoldable pub braced_types : Context → Production (list (base number))
+braced_types c = between k.OpenBrace (types_inside c) k.CloseBrace
 
--- < { types } >
+-- { types }, a struct
+unfoldable pub struct_type : Context → Production (base number)
+struct_type c = act (λ found. add_struct_type false found) (braced_types c)
+
+-- < { types } >, a packed struct
 unfoldable pub packed_type : Context → Production (base number)
-packed_type c = act (λ found. add_struct_type true found) (the k.Less ▷ (between k.OpenBrace (types_inside c) k.CloseBrace ◁ the k.Greater))
+packed_type c = act (λ found. add_struct_type true found) (the k.Less ▷ (braced_types c ◁ the k.Greater))
 
 -- metadata, in a declare
 unfoldable pub other_type : Context → Production (base number)
 other_type at.Declare = act (λ t. add_type types.Metadata) (the k.MetadataWord) ∣ refused (refused_types at.Declare)
+other_type at.DeclareTail = act (λ t. add_type types.Metadata) (the k.MetadataWord) ∣ refused (refused_types at.DeclareTail)
 other_type c = refused (refused_types c)
 
 -- iN | ptr | void | [ integer x type ] | { types } | < { types } > | local

@@ -4,9 +4,11 @@
 //! them. The readers above say of each of their own methods which production it reads, and rely on the laws.
 #![tactic(auto)]
 
+mod attributes;
 mod context;
 mod kind;
 mod reader;
+mod skipped;
 mod spelled;
 mod terminal;
 mod types;
