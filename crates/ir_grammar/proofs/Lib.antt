@@ -1,5 +1,6 @@
 pub mod AttributeLists
 pub mod Complete
+pub mod ConstantLists
 pub mod First
 pub mod KindSets
 pub mod Levels

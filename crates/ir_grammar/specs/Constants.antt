@@ -33,25 +33,37 @@ flag = gone (the k.Flag) ∣ gone (the k.InRange ⨾ in_parens)
 unfoldable pub flags : Production nothing
 flags = gone (many flag)
 
+-- ( type , ptr const (, type integer)* )
+unfoldable pub address_parens : Production (base number)
+address_parens = between k.OpenParen address_inside k.CloseParen
+
 -- getelementptr flag* ( type , ptr const (, type integer)* )
 unfoldable pub address_value : Production (base number)
-address_value = the k.GetElementPtr ▷ (flags ▷ between k.OpenParen address_inside k.CloseParen)
+address_value = the k.GetElementPtr ▷ (flags ▷ address_parens)
 
 -- local | global | integer | true | false | null | undef | poison | zeroinitializer | getelementptr ..
 unfoldable pub value_rule : Production (base number)
 value_rule = integer_value ∣ name_value ∣ word_value ∣ address_value ∣ refused refused_values
 
 -- [ elems ]
-unfoldable pub array_constant : Production (base number)
-array_constant = act (λ found. add_array found) (between k.OpenSquare elements_inside k.CloseSquare)
+unfoldable pub squared_constants : Production (list (base element))
+squared_constants = between k.OpenSquare elements_inside k.CloseSquare
 
 -- { elems }
-unfoldable pub struct_constant : Production (base number)
-struct_constant = act (λ found. add_struct false found) (between k.OpenBrace elements_inside k.CloseBrace)
+unfoldable pub braced_constants : Production (list (base element))
+braced_constants = between k.OpenBrace elements_inside k.CloseBrace
 
--- < { elems } >
+-- [ elems ], an array
+unfoldable pub array_constant : Production (base number)
+array_constant = act (λ found. add_array found) squared_constants
+
+-- { elems }, a struct
+unfoldable pub struct_constant : Production (base number)
+struct_constant = act (λ found. add_struct false found) braced_constants
+
+-- < { elems } >, a packed struct
 unfoldable pub packed_constant : Production (base number)
-packed_constant = act (λ found. add_struct true found) (the k.Less ▷ (between k.OpenBrace elements_inside k.CloseBrace ◁ the k.Greater))
+packed_constant = act (λ found. add_struct true found) (the k.Less ▷ (braced_constants ◁ the k.Greater))
 
 -- value | bytes | [ elems ] | { elems } | < { elems } >
 unfoldable pub constant_rule : Production (base number)

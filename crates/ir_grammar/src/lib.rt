@@ -5,6 +5,7 @@
 #![tactic(auto)]
 
 mod attributes;
+mod constants;
 mod context;
 mod kind;
 mod reader;
