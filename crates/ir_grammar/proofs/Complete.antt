@@ -55,11 +55,11 @@ pub fronts : (ks : List Kind) (empty : Bool) (xs rest : List Terminal) → empty
 fronts ks empty [] rest e h = cc
 fronts ks empty (x ∷ xs) rest e h = h
 
-second_ends : (e : Bool) (ks js : List Kind) (ts : List Terminal) → starts (cond e (ks ++ js) js) ts ≡ false → starts js ts ≡ false
+pub second_ends : (e : Bool) (ks js : List Kind) (ts : List Terminal) → starts (cond e (ks ++ js) js) ts ≡ false → starts js ts ≡ false
 second_ends true ks js ts h = (starts_neither ks js ts h).1
 second_ends false ks js ts h = h
 
-first_ends : (e : Bool) (ks js : List Kind) (ts : List Terminal) → starts (cond e (ks ++ js) js) ts ≡ false → e ≡ true → starts ks ts ≡ false
+pub first_ends : (e : Bool) (ks js : List Kind) (ts : List Terminal) → starts (cond e (ks ++ js) js) ts ≡ false → e ≡ true → starts ks ts ≡ false
 first_ends true ks js ts h p = (starts_neither ks js ts h).0
 first_ends false ks js ts h p = cc
 

@@ -2,11 +2,16 @@ pub mod AttributeLists
 pub mod Complete
 pub mod ConstantLists
 pub mod First
+pub mod Grown
 pub mod KindSets
 pub mod Levels
 pub mod Loops
+pub mod Numbers
 pub mod Outcomes
 pub mod SkippedRuns
 pub mod Sound
+pub mod Stuck
 pub mod TypeKinds
 pub mod TypeLists
+pub mod Viable
+pub mod WellFormed

@@ -2,8 +2,11 @@ pub mod Attributes
 pub mod Conditions
 pub mod Constants
 pub mod Grammar
+pub mod KindOf
 pub mod Kinds
+pub mod Laws
 pub mod Names
+pub mod Prefixes
 pub mod Reading
 pub mod Rules
 pub mod Skipped

@@ -8,6 +8,8 @@ mod attributes;
 mod constants;
 mod context;
 mod kind;
+mod kind_of;
+mod laws;
 mod reader;
 mod skipped;
 mod spelled;
@@ -16,6 +18,8 @@ mod types;
 
 pub use context::Context;
 pub use kind::Kind;
+pub use kind_of::terminals;
+pub use laws::{one_token_ahead_decides, reading_is_deriving};
 pub use reader::{Reader, Spellings};
 pub use spelled::{SpelledConstant, SpelledInteger, SpelledType, TypedConstant, TypedIndex};
 pub use terminal::{Failure, Flaw, Terminal};
