@@ -1,7 +1,28 @@
-//! The grammar of the accepted text, between its tokens and the readers: here the definition of the metadata nodes that are
-//! kept, with their fields. The reader of metadata is proved against it, and the readers of bodies and of the module cite it.
+//! The grammar of the accepted text, between its tokens and the readers of items, bodies and metadata: what a production
+//! is, what reading by one answers, and the laws of both; the kinds of tokens that the grammar decides by; and the
+//! productions that all readers share, of types, attributes, values, constants and skipped runs, with the code that reads
+//! them. Beside it stands what the kept metadata nodes are and say.
+//! The readers above say of each of their own methods which production it reads, and rely on the laws.
 #![tactic(auto)]
 
+mod attributes;
+mod constants;
+mod context;
 mod debug_laws;
+mod kind;
+mod kind_of;
+mod laws;
+mod reader;
+mod skipped;
+mod spelled;
+mod terminal;
+mod types;
 
+pub use context::Context;
 pub use debug_laws::kept_nodes_are_resolved;
+pub use kind::Kind;
+pub use kind_of::terminals;
+pub use laws::{one_token_ahead_decides, reading_is_deriving};
+pub use reader::{Reader, Spellings};
+pub use spelled::{SpelledConstant, SpelledInteger, SpelledType, TypedConstant, TypedIndex};
+pub use terminal::{Failure, Flaw, Terminal};

@@ -1,0 +1,28 @@
+use Rattle.std.proofs.Common.{[], ◌∷◌, subst, append_assoc}
+use Rattle.ir_grammar.specs.Rules.{Derives}
+use Rattle.ir_grammar.specs.Names.{shared}
+use Rattle.ir_grammar.specs.Grammar.{production}
+use Rattle.ir_grammar.proofs.Sound.{all_sound}
+use Rattle.ir_grammar.proofs.Complete.{again_read}
+use Rattle.ir_grammar.proofs.Viable.{begins_before}
+use Rattle.ir_grammar.proofs.Grown.{stuck, no_whole}
+use Rattle.ir_grammar.proofs.WellFormed.{well_formed}
+use Rattle.ir_grammar.proofs.laws.reading_is_deriving.Goals as goal
+
+pub returns-clause-sound : goal.returns-clause-sound
+returns-clause-sound c = λ levels s a ts st x h. all_sound shared production levels s a ts st x h
+
+pub returns-clause-complete : goal.returns-clause-complete
+returns-clause-complete c = λ levels s a front rest st x end clear d follow. again_read shared production well_formed levels s a front st x end d clear rest follow
+
+pub returns-clause-before : goal.returns-clause-before
+returns-clause-before c = λ levels s a ts st e g has_one h. begins_before shared production well_formed levels s a ts st e g has_one h
+
+pub returns-clause-at : goal.returns-clause-at
+returns-clause-at c = λ levels s a front token rest st e clear g failed at other begun.
+    let (k, more, x, end, d) = begun in
+    stuck shared production well_formed levels s a front token rest st e clear g failed at other k more x end
+    (subst (λ v. Derives shared production k s a v st x end) (append_assoc front (token ∷ []) more) d)
+
+pub returns-clause-whole : goal.returns-clause-whole
+returns-clause-whole c = λ levels s a ts st e clear failed other k x end d. no_whole shared production well_formed levels s a ts st e clear failed other k x end d

@@ -1,0 +1,42 @@
+-- The laws that tie reading by a shared rule to what the grammar derives.
+use Rattle.std.specs.Prelude.{ℕ, suc, List, [], ◌∷◌, ◌++◌, length, ◌≡◌, true, false, Ok, Err}
+use Rattle.ir_core.specs.declared.faults.Fault.TheVariants.{TooLarge}
+use Rattle.ir_core.specs.declared.faults.Limit.TheVariants.{Nesting}
+use Rattle.ir_grammar.specs.declared.terminal.Terminal.{Terminal}
+use Rattle.ir_grammar.specs.declared.terminal.Flaw.{Flaw}
+use Rattle.ir_grammar.specs.Rules.{Sort, Value, Derives}
+use Rattle.ir_grammar.specs.Reading.{starts}
+use Rattle.ir_grammar.specs.Conditions.{ends, has, goes_on, is_clear}
+use Rattle.ir_grammar.specs.Prefixes.{Begins}
+use Rattle.ir_grammar.specs.Spelled.{Store}
+use Rattle.ir_grammar.specs.Names.{Base, shared, Production}
+use Rattle.ir_grammar.specs.Grammar.{production, read}
+
+-- what is read is the longest front that is derived: the tokens are a derivation, with this value and store, and the rest
+abbrev pub ReadIsDerived : Type 0
+ReadIsDerived = (levels : ℕ) (s : Sort Base) (a : Production s) (ts : List Terminal) (st : Store) (x : Value shared s × List Terminal × Store)
+    → read levels a ts st ≡ Ok x → (front : List Terminal) × (ts ≡ front ++ x.1) × Derives shared production levels s a front st x.0 x.2
+
+-- what is derived is read, where the tokens behind it don't go on with it
+abbrev pub DerivedIsRead : Type 0
+DerivedIsRead = (levels : ℕ) (s : Sort Base) (a : Production s) (front rest : List Terminal) (st : Store) (x : Value shared s) (end : Store)
+    → is_clear shared production s a ≡ true → Derives shared production levels s a front st x end → starts (ends a) rest ≡ false
+    → read levels a (front ++ rest) st ≡ Ok (x, rest, end)
+
+-- the tokens before a fault begin a derivation
+abbrev pub BeforeFaultBegins : Type 0
+BeforeFaultBegins = (levels : ℕ) (s : Sort Base) (a : Production s) (ts : List Terminal) (st : Store) (e : Flaw)
+    → goes_on a ≡ true → has true a ≡ true → read levels a ts st ≡ Err e
+    → (front : List Terminal) × (rest : List Terminal) × (ts ≡ front ++ rest) × (length rest ≡ e.left) × Begins shared production s a front st
+
+-- with the token at a fault they begin none, of any depth; a fault of Nesting aside
+abbrev pub FaultEnds : Type 0
+FaultEnds = (levels : ℕ) (s : Sort Base) (a : Production s) (front : List Terminal) (token : Terminal) (rest : List Terminal) (st : Store) (e : Flaw)
+    → is_clear shared production s a ≡ true → goes_on a ≡ true → read levels a (front ++ token ∷ rest) st ≡ Err e → e.left ≡ suc (length rest)
+    → (e.fault ≡ TooLarge Nesting → ⊥) → Begins shared production s a (front ++ token ∷ []) st → ⊥
+
+-- tokens with a fault, be it at their end, are no derivation of any depth; a fault of Nesting aside
+abbrev pub FaultIsNoWhole : Type 0
+FaultIsNoWhole = (levels : ℕ) (s : Sort Base) (a : Production s) (ts : List Terminal) (st : Store) (e : Flaw)
+    → is_clear shared production s a ≡ true → read levels a ts st ≡ Err e → (e.fault ≡ TooLarge Nesting → ⊥)
+    → (depth : ℕ) (x : Value shared s) (end : Store) → Derives shared production depth s a ts st x end → ⊥

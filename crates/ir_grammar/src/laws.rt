@@ -1,0 +1,28 @@
+ghost use Rattle.std.specs.Prelude.{◌≡◌, ℕ, List, ◌∷◌, ◌++◌, true};
+ghost use Rattle.ir_grammar.specs.declared.context.Context.{Context};
+ghost use Rattle.ir_grammar.specs.Rules.{base};
+ghost use Rattle.ir_grammar.specs.Names.{shared, number};
+ghost use Rattle.ir_grammar.specs.Grammar.{production};
+ghost use Rattle.ir_grammar.specs.Conditions.{is_clear, goes_on, has, IsWellFormed};
+ghost use Rattle.ir_grammar.specs.Types.{type_rule};
+ghost use Rattle.ir_grammar.specs.Constants.{constant_rule};
+ghost use Rattle.ir_grammar.specs.Attributes.{attribute};
+ghost use Rattle.ir_grammar.specs.Laws.{ReadIsDerived, DerivedIsRead, BeforeFaultBegins, FaultEnds, FaultIsNoWhole};
+
+/// The law of reading: by a rule of the shared grammar exactly what the grammar derives is read, with the value and the
+/// store of the derivation, and a fault stands at the first token with which nothing is derived.
+pub fn reading_is_deriving()
+    ensures sound { ReadIsDerived }
+    ensures complete { DerivedIsRead }
+    ensures before { BeforeFaultBegins }
+    ensures at { FaultEnds }
+    ensures whole { FaultIsNoWhole }
+{}
+
+/// The conditions under which the law of reading says all: they hold of the rule of each name, and of types, constants and
+/// attributes.
+pub fn one_token_ahead_decides()
+    ensures names { IsWellFormed shared production }
+    ensures types { (c : Context) → is_clear shared production (base number) (type_rule c) ≡ true }
+    ensures constants { is_clear shared production (base number) constant_rule ≡ true }
+{}

@@ -1,0 +1,218 @@
+ghost use Rattle.std.specs.Prelude.{◌≡◌, [], ◌∷◌, length, if◌then◌else◌, Ok};
+ghost use Rattle.ir_grammar.specs.declared.terminal.Failure.TheVariants.{Flawed};
+ghost use Rattle.ir_grammar.specs.Reading.{starts, take, bad, unsupported};
+ghost use Rattle.ir_grammar.specs.Grammar.{Gives, deeper};
+ghost use Rattle.ir_grammar.specs.Spelled.{store_of, added, add_type, add_struct_type, add_constant, add_array, add_struct, add_address};
+
+use crate::{
+    Failure, Flaw, Kind, SpelledConstant, SpelledType, Terminal, TypedConstant, TypedIndex,
+};
+use ir_core::{Fault, Limit};
+use std::alloc::Global;
+
+/// The types and constants that were read so far. The number of each is its index.
+#[derive(Drop)]
+pub struct Spellings {
+    pub types: Vec<SpelledType>,
+    /// The fields of structs, by the numbers of their types.
+    pub fields: Vec<usize>,
+    pub constants: Vec<SpelledConstant>,
+    /// The elements of arrays and structs.
+    pub elements: Vec<TypedConstant>,
+    /// The indices of `getelementptr`.
+    pub indices: Vec<TypedIndex>,
+}
+
+impl Spellings {
+    /// Nothing yet. It takes no memory.
+    pub fn new(alloc: Global) -> Spellings
+        ensures types { (store_of result).types ≡ [] }
+        ensures fields { (store_of result).fields ≡ [] }
+        ensures constants { (store_of result).constants ≡ [] }
+        ensures elements { (store_of result).elements ≡ [] }
+        ensures indices { (store_of result).indices ≡ [] }
+    {
+        Spellings {
+            types: Vec::new(alloc),
+            fields: Vec::new(alloc),
+            constants: Vec::new(alloc),
+            elements: Vec::new(alloc),
+            indices: Vec::new(alloc),
+        }
+    }
+}
+
+/// A reader stands in front of the tokens that are left and adds to what was read so far. Each of its reading methods says
+/// which rule of the grammar it reads; `levels` is how many brackets may still be opened. After an `Err` the reader means
+/// nothing.
+#[derive(Drop)]
+pub struct Reader<'a> {
+    pub alloc: Global,
+    pub rest: &'a [Terminal],
+    pub found: Spellings,
+}
+
+impl<'a> Reader<'a> {
+    /// Whether a token of this kind comes next.
+    pub fn next_is(&self, kind: Kind) -> bool
+        ensures { result ≡ starts (kind ∷ []) self.now.rest.now }
+    {
+        match self.rest {
+            [] => false,
+            [next, ..] => next.kind.is_among(&[kind]),
+        }
+    }
+
+    /// Whether a token of one of these kinds comes next.
+    pub fn next_among(&self, kinds: &[Kind]) -> bool
+        ensures { result ≡ starts kinds.now self.now.rest.now }
+    {
+        match self.rest {
+            [] => false,
+            [next, ..] => next.kind.is_among(kinds),
+        }
+    }
+
+    /// The failure where nothing goes on with the next token, or at the end of the text.
+    pub fn bad(&self) -> Failure
+        ensures { result ≡ Flawed (bad self.now.rest.now) }
+    {
+        let fault = if self.next_among(&[Kind::Vector, Kind::Dots, Kind::HexWord]) {
+            Fault::Unsupported
+        } else {
+            Fault::BadSyntax
+        };
+        Failure::Flawed(Flaw {
+            fault,
+            left: self.rest.len(),
+        })
+    }
+
+    /// The failure where nothing goes on with the next token, and one of these kinds is Unsupported.
+    pub fn refuse(&self, kinds: &[Kind]) -> Failure
+        ensures { result ≡ Flawed (if starts kinds.now self.now.rest.now then unsupported self.now.rest.now else bad self.now.rest.now) }
+    {
+        if self.next_among(kinds) {
+            Failure::Flawed(Flaw {
+                fault: Fault::Unsupported,
+                left: self.rest.len(),
+            })
+        } else {
+            self.bad()
+        }
+    }
+
+    /// Takes a token of one of these kinds.
+    pub fn take_among(&mut self, kinds: &[Kind]) -> Result<Terminal, Failure>
+        ensures { Gives (λ t. (t, self.new.rest.now, store_of self.new.found)) result (take kinds.now self.old.rest.now (store_of self.old.found)) }
+    {
+        match self.rest {
+            [] => Err(self.bad()),
+            [next, rest @ ..] => {
+                if next.kind.is_among(kinds) {
+                    self.rest = rest;
+                    Ok(*next)
+                } else {
+                    Err(self.bad())
+                }
+            }
+        }
+    }
+
+    /// Takes a token of this kind.
+    pub fn take(&mut self, kind: Kind) -> Result<Terminal, Failure>
+        ensures { Gives (λ t. (t, self.new.rest.now, store_of self.new.found)) result (take (kind ∷ []) self.old.rest.now (store_of self.old.found)) }
+    {
+        self.take_among(&[kind])
+    }
+
+    /// One level fewer, behind a bracket with `at` tokens from it on; TooLarge where no level is left.
+    pub fn deeper(levels: u32, at: usize) -> Result<u32, Failure>
+        ensures { Gives (λ l. l) result (deeper levels at) }
+    {
+        if levels == 0 {
+            Err(Failure::Flawed(Flaw {
+                fault: Fault::TooLarge(Limit::Nesting),
+                left: at,
+            }))
+        } else {
+            Ok(levels - 1)
+        }
+    }
+
+    /// Adds a type, and answers its number.
+    pub fn add_type(&mut self, ty: SpelledType) -> Result<usize, Failure>
+        ensures { Gives (λ n. (n, self.new.rest.now, store_of self.new.found)) result (added (add_type ty (store_of self.old.found)) self.old.rest.now) }
+    {
+        let number = self.found.types.len();
+        self.found.types.push(ty)?;
+        Ok(number)
+    }
+
+    /// Adds a struct type of these fields, and answers its number.
+    pub fn add_struct_type(&mut self, packed: bool, fields: &[usize]) -> Result<usize, Failure>
+        ensures { Gives (λ n. (n, self.new.rest.now, store_of self.new.found)) result (added (add_struct_type packed fields.now (store_of self.old.found)) self.old.rest.now) }
+    {
+        let first = self.found.fields.len();
+        let count = fields.len();
+        self.found.fields.extend_from_slice(fields)?;
+        self.add_type(SpelledType::Struct {
+            first,
+            count,
+            packed,
+        })
+    }
+
+    /// Adds a constant, and answers its number.
+    pub fn add_constant(&mut self, constant: SpelledConstant) -> Result<usize, Failure>
+        ensures { Gives (λ n. (n, self.new.rest.now, store_of self.new.found)) result (added (add_constant constant (store_of self.old.found)) self.old.rest.now) }
+    {
+        let number = self.found.constants.len();
+        self.found.constants.push(constant)?;
+        Ok(number)
+    }
+
+    /// Adds an array of these elements, and answers its number.
+    pub fn add_array(&mut self, elements: &[TypedConstant]) -> Result<usize, Failure>
+        ensures { Gives (λ n. (n, self.new.rest.now, store_of self.new.found)) result (added (add_array elements.now (store_of self.old.found)) self.old.rest.now) }
+    {
+        let first = self.found.elements.len();
+        let count = elements.len();
+        self.found.elements.extend_from_slice(elements)?;
+        self.add_constant(SpelledConstant::Array { first, count })
+    }
+
+    /// Adds a struct of these elements, and answers its number.
+    pub fn add_struct(&mut self, packed: bool, elements: &[TypedConstant]) -> Result<usize, Failure>
+        ensures { Gives (λ n. (n, self.new.rest.now, store_of self.new.found)) result (added (add_struct packed elements.now (store_of self.old.found)) self.old.rest.now) }
+    {
+        let first = self.found.elements.len();
+        let count = elements.len();
+        self.found.elements.extend_from_slice(elements)?;
+        self.add_constant(SpelledConstant::Struct {
+            first,
+            count,
+            packed,
+        })
+    }
+
+    /// Adds the address of a part of the type from a base on, and answers its number.
+    pub fn add_address(
+        &mut self,
+        of: usize,
+        base: usize,
+        indices: &[TypedIndex],
+    ) -> Result<usize, Failure>
+        ensures { Gives (λ n. (n, self.new.rest.now, store_of self.new.found)) result (added (add_address of base indices.now (store_of self.old.found)) self.old.rest.now) }
+    {
+        let first = self.found.indices.len();
+        let count = indices.len();
+        self.found.indices.extend_from_slice(indices)?;
+        self.add_constant(SpelledConstant::Address {
+            of,
+            base,
+            first,
+            count,
+        })
+    }
+}
