@@ -10,6 +10,7 @@ use Rattle.ir_grammar.specs.declared.spelled.SpelledConstant.{SpelledConstant}
 use Rattle.ir_grammar.specs.declared.spelled.SpelledConstant.TheVariants as constants
 use Rattle.ir_grammar.specs.declared.spelled.TypedConstant.{TypedConstant}
 use Rattle.ir_grammar.specs.declared.spelled.TypedIndex.{TypedIndex}
+use Rattle.ir_grammar.specs.declared.spelled.SpelledParameter.{SpelledParameter}
 use Rattle.ir_grammar.specs.declared.reader.Spellings.{Spellings}
 use Rattle.ir_grammar.specs.Kinds.{is_same}
 use Rattle.ir_grammar.specs.Reading.{Outcome}
@@ -25,6 +26,7 @@ pub record Store : Type 0 where
   pub constants : List SpelledConstant
   pub elements : List TypedConstant
   pub indices : List TypedIndex
+  pub parameters : List SpelledParameter
 
 -- the type is added, and its value is its number
 abbrev pub add_type : SpelledType → Store → ℕ × Store
@@ -56,7 +58,7 @@ add_address ty base found store =
 
 -- the lists of the reader
 abbrev pub store_of : Spellings → Store
-store_of s = record { types = s.types.items; fields = s.fields.items; constants = s.constants.items; elements = s.elements.items; indices = s.indices.items }
+store_of s = record { types = s.types.items; fields = s.fields.items; constants = s.constants.items; elements = s.elements.items; indices = s.indices.items; parameters = s.parameters.items }
 
 -- a number and a store, with the tokens that are left
 abbrev pub added : ℕ × Store → List Terminal → Outcome Store ℕ

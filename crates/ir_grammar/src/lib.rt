@@ -24,5 +24,8 @@ pub use kind::Kind;
 pub use kind_of::terminals;
 pub use laws::{one_token_ahead_decides, reading_is_deriving};
 pub use reader::{Reader, Spellings};
-pub use spelled::{SpelledConstant, SpelledInteger, SpelledType, TypedConstant, TypedIndex};
+pub use spelled::{
+    SpelledConstant, SpelledInteger, SpelledItem, SpelledParameter, SpelledType, TypedConstant,
+    TypedIndex,
+};
 pub use terminal::{Failure, Flaw, Terminal};

@@ -5,7 +5,8 @@ ghost use Rattle.ir_grammar.specs.Grammar.{Gives, deeper};
 ghost use Rattle.ir_grammar.specs.Spelled.{store_of, added, add_type, add_struct_type, add_constant, add_array, add_struct, add_address};
 
 use crate::{
-    Failure, Flaw, Kind, SpelledConstant, SpelledType, Terminal, TypedConstant, TypedIndex,
+    Failure, Flaw, Kind, SpelledConstant, SpelledParameter, SpelledType, Terminal, TypedConstant,
+    TypedIndex,
 };
 use ir_core::{Fault, Limit};
 use std::alloc::Global;
@@ -21,6 +22,8 @@ pub struct Spellings {
     pub elements: Vec<TypedConstant>,
     /// The indices of `getelementptr`.
     pub indices: Vec<TypedIndex>,
+    /// The parameters of declares.
+    pub parameters: Vec<SpelledParameter>,
 }
 
 impl Spellings {
@@ -31,6 +34,7 @@ impl Spellings {
         ensures constants { (store_of result).constants ≡ [] }
         ensures elements { (store_of result).elements ≡ [] }
         ensures indices { (store_of result).indices ≡ [] }
+        ensures parameters { (store_of result).parameters ≡ [] }
     {
         Spellings {
             types: Vec::new(alloc),
@@ -38,6 +42,7 @@ impl Spellings {
             constants: Vec::new(alloc),
             elements: Vec::new(alloc),
             indices: Vec::new(alloc),
+            parameters: Vec::new(alloc),
         }
     }
 }

@@ -14,6 +14,8 @@ pub enum SpelledType {
     Ptr,
     /// An integer of this many bits, 1 to 128.
     Int(u128),
+    /// `opaque`, behind a type's name.
+    Opaque,
     /// `metadata`, in a declare.
     Metadata,
     /// A type by its name: the local.
@@ -79,4 +81,41 @@ pub struct TypedConstant {
 pub struct TypedIndex {
     pub ty: usize,
     pub value: SpelledInteger,
+}
+
+/// A parameter of a declare: the number of its type, and its name where it has one.
+#[derive(Clone, Copy, Debug, PartialEq, Eq)]
+pub struct SpelledParameter {
+    pub ty: usize,
+    pub name: Option<Token>,
+}
+
+/// An item of a module as it is spelled. Numbers are those of types, constants and parameters that were read before it.
+#[derive(Clone, Copy, Debug, PartialEq, Eq)]
+pub enum SpelledItem {
+    /// A source file name, a target or a group of attributes: nothing that a module keeps.
+    Skipped,
+    /// A type by its name, the local, and the number of what it stands for.
+    Type { name: Token, ty: usize },
+    /// A global variable, or a constant, by its name, with the numbers of its type and of its first value.
+    Global {
+        name: Token,
+        constant: bool,
+        ty: usize,
+        value: usize,
+    },
+    /// `@llvm.used` or `@llvm.compiler.used`, which defines no name.
+    Used,
+    /// A function that is declared, by its name, with the number of its result's type and the `count` parameters from
+    /// `first` on of the list of parameters.
+    Declare {
+        name: Token,
+        result: usize,
+        first: usize,
+        count: usize,
+    },
+    /// A metadata node, by its number.
+    Node { number: Token },
+    /// A named list of metadata, by its name.
+    NodeList { name: Token },
 }
