@@ -8,6 +8,7 @@ pub mod Levels
 pub mod Loops
 pub mod Numbers
 pub mod Outcomes
+pub mod ParameterLists
 pub mod Resolved
 pub mod SkippedRuns
 pub mod Sound

@@ -6,7 +6,7 @@ use Rattle.ir_grammar.specs.declared.kind.Kind.TheVariants as k
 use Rattle.ir_grammar.specs.declared.spelled.SpelledConstant.TheVariants as constants
 use Rattle.ir_grammar.specs.Rules.{nothing, base, pair, list, one, refused, ◌⨾◌, ◌∣◌, optional, many, between, act, the, just, gone, ◌▷◌, ◌◁◌, items_of}
 use Rattle.ir_grammar.specs.Names.{Production, number, element, index, elements_inside, address_inside}
-use Rattle.ir_grammar.specs.Words.{integers, locals, refused_values}
+use Rattle.ir_grammar.specs.Words.{integers, locals, globals, refused_values}
 use Rattle.ir_grammar.specs.Spelled.{add_constant, add_array, add_struct, add_address, integer_of}
 use Rattle.ir_grammar.specs.Skipped.{in_parens}
 use Rattle.ir_grammar.specs.Types.{type_rule, ptr_word}
@@ -17,7 +17,7 @@ integer_value = act (λ t. add_constant (constants.Integer (integer_of t))) (one
 
 -- local | global
 unfoldable pub name_value : Production (base number)
-name_value = act (λ t. add_constant (constants.Local t.token)) (one locals) ∣ act (λ t. add_constant (constants.Global t.token)) (the k.Global)
+name_value = act (λ t. add_constant (constants.Local t.token)) (one locals) ∣ act (λ t. add_constant (constants.Global t.token)) (one globals)
 
 -- true | false | null | undef | poison | zeroinitializer
 unfoldable pub word_value : Production (base number)

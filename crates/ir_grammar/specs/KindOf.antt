@@ -6,6 +6,7 @@ use Rattle.std.specs.Str.{bytes_eq}
 use Rattle.std.specs.Str.Parse.{digits_value}
 use Rattle.std.specs.Char.{is_ascii_digit}
 use Rattle.std.specs.Int.{is_power_of_two}
+use Rattle.ir_core.specs.declared.refusals.Place.{Place}
 use Rattle.ir_core.specs.declared.token.Token.{Token}
 use Rattle.ir_core.specs.declared.token.TokenKind.{TokenKind}
 use Rattle.ir_core.specs.declared.token.TokenKind.TheVariants as tokens
@@ -218,7 +219,15 @@ terminal_of source t behind = record {
   token = t;
 }
 
+-- the end of the text, with its place
+abbrev pub end_of_text : Place → Terminal
+end_of_text place = record { kind = k.End; number = 0; token = record { kind = tokens.Mark; from = 0; to = 0; place = place } }
+
 -- the tokens of the source
 abbrev pub terminals_of : List ℕ → List Token → List Terminal
 terminals_of source [] = []
 terminals_of source (t ∷ ts) = terminal_of source t ts ∷ terminals_of source ts
+
+-- the tokens of the source, and behind them the end of the text, which is here
+abbrev pub text_of : List ℕ → List Token → Place → List Terminal
+text_of source tokens place = terminals_of source tokens ++ end_of_text place ∷ []

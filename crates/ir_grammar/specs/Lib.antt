@@ -9,6 +9,7 @@ pub mod KindOf
 pub mod Kinds
 pub mod Laws
 pub mod Names
+pub mod Parameters
 pub mod Prefixes
 pub mod Reading
 pub mod Rules

@@ -1,11 +1,11 @@
 ghost use Rattle.std.specs.Prelude.{◌≡◌, drop, map, IfOk};
 ghost use Rattle.std.specs.Char.{digit_value, is_ascii_digit};
 ghost use Rattle.std.specs.List.{list_all};
-ghost use Rattle.ir_grammar.specs.KindOf.{kind_in, type_words, item_words, body_words, other_words, mark_table, is_int_type, int_kind, number_of, other_word, word_kind, count_kind, digits_of, integer_kind, mark_kind, is_token, integer_follows, equals_follows, token_kind, token_number, terminal_of, terminals_of};
+ghost use Rattle.ir_grammar.specs.KindOf.{kind_in, type_words, item_words, body_words, other_words, mark_table, is_int_type, int_kind, number_of, other_word, word_kind, count_kind, digits_of, integer_kind, mark_kind, is_token, integer_follows, equals_follows, token_kind, token_number, terminal_of, terminals_of, end_of_text, text_of};
 
 use crate::{Kind, Terminal};
 use hw_base::OutOfMemory;
-use ir_core::{Token, TokenKind, Tokens};
+use ir_core::{Place, Token, TokenKind, Tokens};
 use std::alloc::Global;
 
 /// Words of types and values.
@@ -509,9 +509,29 @@ fn terminal_of(tokens: &Tokens, token: &Token, behind: &[Token]) -> Terminal
     }
 }
 
-/// The tokens as the grammar sees them.
-pub fn terminals(alloc: Global, tokens: &Tokens) -> Result<Vec<Terminal>, OutOfMemory>
-    ensures { IfOk result (λ found. found.items ≡ terminals_of tokens.now.source tokens.now.tokens) }
+/// The end of the text, with its place.
+fn end_of_text(place: Place) -> Terminal
+    ensures { result ≡ end_of_text place }
+{
+    Terminal {
+        kind: Kind::End,
+        number: 0,
+        token: Token {
+            kind: TokenKind::Mark,
+            from: 0,
+            to: 0,
+            place,
+        },
+    }
+}
+
+/// The tokens as the grammar sees them, and behind them the end of the text, which stands at this place.
+pub fn terminals(
+    alloc: Global,
+    tokens: &Tokens,
+    end: Place,
+) -> Result<Vec<Terminal>, OutOfMemory>
+    ensures { IfOk result (λ found. found.items ≡ text_of tokens.now.source tokens.now.tokens end) }
 {
     let mut found = Vec::new(alloc);
     let mut rest = tokens.as_slice();
@@ -519,5 +539,6 @@ pub fn terminals(alloc: Global, tokens: &Tokens) -> Result<Vec<Terminal>, OutOfM
         found.push(terminal_of(tokens, token, behind))?;
         rest = behind;
     }
+    found.push(end_of_text(end))?;
     Ok(found)
 }
