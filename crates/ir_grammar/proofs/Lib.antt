@@ -3,6 +3,7 @@ pub mod Complete
 pub mod ConstantLists
 pub mod First
 pub mod Grown
+pub mod Kept
 pub mod KindSets
 pub mod Levels
 pub mod Loops
@@ -10,8 +11,10 @@ pub mod Numbers
 pub mod Outcomes
 pub mod ParameterLists
 pub mod Resolved
+pub mod SharedKept
 pub mod SkippedRuns
 pub mod Sound
+pub mod SoundSteps
 pub mod Stuck
 pub mod TypeKinds
 pub mod TypeLists

@@ -5,7 +5,7 @@ use Rattle.ir_grammar.specs.declared.context.Context.TheVariants as at
 use Rattle.ir_grammar.specs.Kinds.{is_same}
 use Rattle.ir_grammar.specs.Rules.{base}
 use Rattle.ir_grammar.specs.Conditions.{is_clear, has, goes_on, IsWellFormed}
-use Rattle.ir_grammar.specs.Names.{Name, number, array_inside, types_inside, elements_inside, address_inside, parameters_inside, any_inside, sort_of, shared}
+use Rattle.ir_grammar.specs.Names.{Name, number, constant, array_inside, types_inside, elements_inside, address_inside, parameters_inside, any_inside, sort_of, shared}
 use Rattle.ir_grammar.specs.Grammar.{production}
 use Rattle.ir_grammar.specs.Skipped.{in_parens, in_squares, in_braces, any_part, any_run}
 use Rattle.ir_grammar.specs.Types.{int_type, named_type, array_type, braced_types, struct_type, packed_type, other_type, type_rule, array_rule, comma_type, more_types, types_rule, ptr_word}
@@ -74,6 +74,6 @@ type_clear at.Declare = refl
 type_clear at.Parameter = refl
 type_clear at.DeclareTail = refl
 
-pub constant_clear : is_clear shared production (base number) constant_rule ≡ true
+pub constant_clear : is_clear shared production (base constant) constant_rule ≡ true
 unfolding is_same in_parens in_squares in_braces any_part any_run int_type named_type array_type braced_types struct_type packed_type other_type type_rule array_rule comma_type more_types types_rule ptr_word integer_value name_value word_value flag flags address_parens address_value value_rule squared_constants braced_constants array_constant struct_constant packed_constant constant_rule typed_constant comma_constant more_elements elements_rule comma_index indices address_base address_rule
 constant_clear = refl

@@ -14,6 +14,7 @@ pub mod Prefixes
 pub mod Reading
 pub mod Rules
 pub mod Skipped
+pub mod SoundStore
 pub mod Spelled
 pub mod Types
 pub mod Words

@@ -7,10 +7,10 @@ use Rattle.ir_grammar.specs.declared.spelled.SpelledParameter.{SpelledParameter}
 use Rattle.ir_grammar.specs.Rules.{Sort, nothing, base, list, Signature, Rule}
 use Rattle.ir_grammar.specs.Spelled.{Store}
 
--- what the shared rules give of their own: the number of a type or constant, an element, an index, a
--- parameter
+-- what the shared rules give of their own: the number of a type, that of a constant, an element, an index, a parameter
 pub data Base : Type 0 where
   number : Base
+  constant : Base
   element : Base
   index : Base
   parameter : Base
@@ -18,6 +18,7 @@ pub data Base : Type 0 where
 -- their values
 abbrev pub Carrier : Base → Type 0
 Carrier number = ℕ
+Carrier constant = ℕ
 Carrier element = TypedConstant
 Carrier index = TypedIndex
 Carrier parameter = SpelledParameter
@@ -37,7 +38,7 @@ abbrev pub sort_of : Name → Sort Base
 sort_of (array_inside c) = base number
 sort_of (types_inside c) = list (base number)
 sort_of elements_inside = list (base element)
-sort_of address_inside = base number
+sort_of address_inside = base constant
 sort_of parameters_inside = list (base parameter)
 sort_of any_inside = nothing
 

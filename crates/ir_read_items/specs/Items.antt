@@ -9,7 +9,7 @@ use Rattle.ir_grammar.specs.declared.spelled.SpelledType.TheVariants as types
 use Rattle.ir_grammar.specs.declared.spelled.SpelledItem.TheVariants as items
 use Rattle.ir_grammar.specs.Kinds.{is_same}
 use Rattle.ir_grammar.specs.Rules.{token, base, pair, list, nothing, one, refused, ◌⨾◌, ◌∣◌, optional, many, act, the, just, gone, ◌▷◌, ◌◁◌}
-use Rattle.ir_grammar.specs.Names.{Production, number, parameter}
+use Rattle.ir_grammar.specs.Names.{Production, number, constant, parameter}
 use Rattle.ir_grammar.specs.Words.{texts, globals, meta_names, locals, refused_words}
 use Rattle.ir_grammar.specs.Spelled.{add_type, add_item, add_declare}
 use Rattle.ir_grammar.specs.Skipped.{in_squares, in_braces, in_parens}
@@ -83,7 +83,7 @@ unfoldable pub global_tail : Production nothing
 global_tail = gone (many comma_part)
 
 -- const gtail*
-unfoldable pub global_value : Production (base number)
+unfoldable pub global_value : Production (base constant)
 global_value = constant_rule ◁ global_tail
 
 -- global = attr* (global | constant) type const gtail*
