@@ -1,3 +1,4 @@
 pub mod Extending
+pub mod PartsInside
 pub mod Putting
 pub mod Unfolded

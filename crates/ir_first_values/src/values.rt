@@ -244,14 +244,8 @@ impl<'a> Initializers<'a> {
         match part {
             Some(part) => {
                 if self.is_spelled(part.ty, element.ty) {
-                    self.put_value(
-                        alloc,
-                        parts,
-                        levels,
-                        at + part.offset,
-                        part.ty,
-                        element.value,
-                    )
+                    let start = at + part.offset;
+                    self.put_value(alloc, parts, levels, start, part.ty, element.value)
                 } else {
                     Err(NoValue::RuleBroken)
                 }
