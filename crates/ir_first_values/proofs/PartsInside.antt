@@ -39,7 +39,7 @@ small_from_fitting t ty h =
     record { known = parts.0; size = leb-true _ _ parts.1 }
 
 -- a small type's layout is made of those of what it holds
-layout_is : (t : Tables) (ty : ℕ) (held : IrType) → IsSmall t ty → type_at t ty ≡ Some held → layout_at (exact_layouts t.types t.fields) ty ≡ type_layout t.fields (exact_layouts t.types t.fields) held
+pub layout_is : (t : Tables) (ty : ℕ) (held : IrType) → IsSmall t ty → type_at t ty ≡ Some held → layout_at (exact_layouts t.types t.fields) ty ≡ type_layout t.fields (exact_layouts t.types t.fields) held
 layout_is t ty held small there =
     exact_layout t.types t.fields ty (slice_get_within t.types ty held there) (laid_known (layout_at (exact_layouts t.types t.fields) ty) small.known)
     ∙ ap (type_layout t.fields (exact_layouts t.types t.fields)) (get_or_from_slice_get t.types ty held Void there)
