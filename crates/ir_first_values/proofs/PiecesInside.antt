@@ -9,8 +9,8 @@ use Rattle.ir_core.specs.declared.types.IrType.TheVariants.{Void, Int, Ptr, Arra
 use Rattle.ir_core.specs.declared.operands.Operand.{Operand}
 use Rattle.ir_core.specs.declared.operands.Operand.TheVariants.{Int as Number, Null, Global}
 use Rattle.ir_core.specs.declared.operands.Part.{Part}
-use Rattle.ir_core.specs.Layout.{int_store_size, int_layout, layout_size, type_layout, exact_layouts, layout_at}
-use Rattle.ir_core.specs.Resolved.{IsPieceOf}
+use Rattle.ir_core.specs.Layout.{int_store_size, int_layout, layout_size, exact_layouts, layout_at, is_known}
+use Rattle.ir_core.specs.Resolved.{IsPieceOf, IsPartWithin}
 use Rattle.ir_grammar.specs.declared.spelled.SpelledInteger.{SpelledInteger}
 use Rattle.ir_grammar.specs.declared.spelled.SpelledConstant.{SpelledConstant}
 use Rattle.ir_grammar.specs.declared.spelled.SpelledConstant.TheVariants as constants
@@ -22,6 +22,7 @@ use Rattle.ir_first_values.specs.Tables.{Tables, items_from, type_at, is_spelled
 use Rattle.ir_first_values.specs.Addresses.{null_address, variable_address, moved, indexed, place_of, plain_address, address_by, address_of, if_there}
 use Rattle.ir_first_values.specs.FirstValues.{piece, number_piece, integer_value, bool_in, operand_of, address_value, zero_value, is_i8, is_i8_array_of, byte_piece, byte_pieces, bytes_value, string_of, flat_value, joined, element_by, elements_value, elements_of, nested_value, first_value}
 use Rattle.ir_first_values.specs.Pieces.{IsPieceIn, AreNumbered}
+use Rattle.ir_first_values.specs.Answers.{behind}
 use Rattle.ir_first_values.proofs.TextBytes.{IsByte, string_small}
 use Rattle.ir_first_values.proofs.PartsInside.{size, IsSmall, IsPartOf, HasPart, part_inside, layout_is}
 
@@ -338,3 +339,22 @@ first_value_inside zero t globals ty c at b small =
 first_value_inside (suc levels) t globals ty c at b small =
     value_there globals at (at + size t ty) (slice_get t.constants c) (nested_value t (first_value levels t) (suc levels) ty c at)
     (λ constant. nested_inside t globals (first_value levels t) (suc levels) ty c at constant b (λ ty2 c2 at2 small2. first_value_inside levels t globals ty2 c2 at2 b small2) small)
+
+-- ---- what was put
+
+within_size : (globals bytes : ℕ) (parts : List Part) → AreIn globals 0 (0 + bytes) parts → All (IsPartWithin globals bytes) parts
+within_size globals bytes parts all =
+    All-weaker (IsPieceIn globals 0 (0 + bytes)) (IsPartWithin globals bytes) (λ p h. let e : p.at + p.size ≤ 0 + bytes = h.ends in record { inside = omega arith; piece = h.piece }) parts all
+
+put_within_by : (globals bytes : ℕ) (new : List Part) (value : Option (List Part)) → MayBeIn globals 0 (0 + bytes) value → behind [] value ≡ Some new → All (IsPartWithin globals bytes) new
+put_within_by globals bytes new (Some parts) h e =
+    let same : parts ≡ new = cc in
+    subst (All (IsPartWithin globals bytes)) same (within_size globals bytes parts h)
+put_within_by globals bytes new None h e = cc
+
+-- the pieces that were put behind none
+pub put_within : (levels : ℕ) (t : Tables) (globals ty c : ℕ) (old new : List Part) → All IsByte t.source → AreNumbered globals t.variables → is_known (layout_at (exact_layouts t.types t.fields) ty) ≡ true → size t ty ≤ 2 ^ 40 → old ≡ [] → behind old (first_value levels t ty c 0) ≡ Some new → All (IsPartWithin globals (size t ty)) new
+put_within levels t globals ty c old new bytes named known small none e =
+    put_within_by globals (size t ty) new (first_value levels t ty c 0)
+    (first_value_inside levels t globals ty c 0 (record { bytes = bytes; named = named }) (record { known = known; size = small }))
+    (ap (λ o. behind o (first_value levels t ty c 0)) (sym none) ∙ e)
