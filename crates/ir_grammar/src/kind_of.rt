@@ -1,6 +1,7 @@
-ghost use Rattle.std.specs.Prelude.{◌≡◌, drop, map, IfOk};
+ghost use Rattle.std.specs.Prelude.{◌≡◌, drop, map, All, IfOk};
 ghost use Rattle.std.specs.Char.{digit_value, is_ascii_digit};
 ghost use Rattle.std.specs.List.{list_all};
+ghost use Rattle.ir_grammar.specs.SoundStore.{IsInRange};
 ghost use Rattle.ir_grammar.specs.KindOf.{kind_in, type_words, item_words, body_words, other_words, mark_table, is_int_type, int_kind, number_of, other_word, word_kind, count_kind, digits_of, integer_kind, mark_kind, is_token, integer_follows, equals_follows, local_kind, meta_name_kind, global_kind, text_kind, token_kind, token_number, terminal_of, terminals_of, end_of_text, text_of};
 
 use crate::{Kind, Terminal};
@@ -565,12 +566,8 @@ fn end_of_text(place: Place) -> Terminal
     }
 }
 
-/// The tokens as the grammar sees them, and behind them the end of the text, which stands at this place.
-pub fn terminals(
-    alloc: Global,
-    tokens: &Tokens,
-    end: Place,
-) -> Result<Vec<Terminal>, OutOfMemory>
+/// The tokens as the grammar sees them, and behind them the end of the text.
+fn text_of(alloc: Global, tokens: &Tokens, end: Place) -> Result<Vec<Terminal>, OutOfMemory>
     ensures { IfOk result (λ found. found.items ≡ text_of tokens.now.source tokens.now.tokens end) }
 {
     let mut found = Vec::new(alloc);
@@ -580,5 +577,19 @@ pub fn terminals(
         rest = behind;
     }
     found.push(end_of_text(end))?;
+    Ok(found)
+}
+
+/// The tokens as the grammar sees them, and behind them the end of the text, which stands at this place. The only error is
+/// want of memory.
+pub fn terminals(
+    alloc: Global,
+    tokens: &Tokens,
+    end: Place,
+) -> Result<Vec<Terminal>, OutOfMemory>
+    ensures text { IfOk result (λ found. found.items ≡ text_of tokens.now.source tokens.now.tokens end) }
+    ensures ranges { IfOk result (λ found. All IsInRange found.items) }
+{
+    let found = text_of(alloc, tokens, end)?;
     Ok(found)
 }

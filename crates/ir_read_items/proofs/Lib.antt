@@ -1,2 +1,3 @@
 pub mod ItemLists
+pub mod ItemsKept
 pub mod ModuleClear
