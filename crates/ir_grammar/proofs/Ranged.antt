@@ -1,5 +1,5 @@
 -- The number of each token is in the range that its kind says.
-use Rattle.std.proofs.Common.{ℕ, ◌+◌, ◌^◌, List, [], ◌∷◌, ◌++◌, length, drop, get_or, ◌≤◌, ◌<◌, ◌≡◌, refl, sym, ◌∙◌, ap, Bool, true, false, not, cond, ◌&&◌, Option, None, Some, All, arith}
+use Rattle.std.proofs.Common.{ℕ, ◌+◌, ◌^◌, List, [], ◌∷◌, ◌++◌, length, drop, get_or, ◌≤◌, ◌<◌, ◌≡◌, refl, sym, ◌∙◌, ap, Bool, true, false, not, cond, ◌&&◌, ◌||◌, Option, None, Some, All, arith}
 use Rattle.std.specs.Prelude.{nat_le, nat_lt, nat_eq, codes, ◌==◌, unwrap_or}
 use Rattle.std.specs.List.{list_all, starts_with}
 use Rattle.std.specs.Str.{bytes_eq}
@@ -20,6 +20,7 @@ use Rattle.ir_grammar.specs.Words.{counts}
 use Rattle.ir_grammar.specs.KindOf.{Table, kind_in, type_words, item_words, body_words, other_words, or_else, is_int_type, int_kind, number_of, other_word, word_kind, count_kind, digits_of, integer_kind, mark_table, mark_kind, local_kind, meta_name_kind, global_kind, text_kind, token_kind, token_number, equals_follows, integer_follows, terminal_of, terminals_of, end_of_text, text_of}
 use Rattle.ir_grammar.specs.SoundStore.{IsInRange}
 use Rattle.ir_grammar.proofs.KindSets.{both_true, not_true}
+use Rattle.ir_grammar.proofs.Kept.{Each}
 
 -- the kinds of integer types
 abbrev widths : List Kind
@@ -211,3 +212,55 @@ terminals_ranged source (t ∷ ts) = All-cons IsInRange (terminal_of source t ts
 -- the numbers of a whole text's tokens are in their ranges
 pub text_ranged : (source : List ℕ) (ts : List Token) (place : Place) → All IsInRange (text_of source ts place)
 text_ranged source ts place = All-append IsInRange (terminals_of source ts) (end_of_text place ∷ []) (terminals_ranged source ts) (All-cons IsInRange (end_of_text place) [] (end_ranged place) (All-nil IsInRange))
+
+-- the kind of the end of a text
+abbrev the_end : List Kind
+the_end = k.End ∷ []
+
+-- of two kinds that aren't among these, neither is
+not_among : (ks : List Kind) (c : Bool) (a b : Kind) → is_among ks a ≡ false → is_among ks b ≡ false → is_among ks (cond c a b) ≡ false
+not_among ks true a b p q = p
+not_among ks false a b p q = q
+
+other_no_end : (text : List ℕ) → is_among the_end (other_word text) ≡ false
+unfolding is_same other_word
+other_no_end text =
+    let n : ℕ = number_of (drop 1 text) in
+    not_among the_end (is_int_type text) (int_kind n) _
+    (not_among the_end (n == 0) k.EmptyIntType _ refl (not_among the_end (n == 1) k.BitType _ refl (not_among the_end (nat_le n 128) k.IntType k.WideIntType refl refl)))
+    (not_among the_end (starts_with nat_eq text (codes "$")) k.DollarWord _ refl (not_among the_end (starts_with nat_eq text (codes "u0x") || starts_with nat_eq text (codes "s0x")) k.HexWord k.Word refl refl))
+
+count_no_end : (n : ℕ) → is_among the_end (count_kind n) ≡ false
+unfolding is_same
+count_no_end n =
+    not_among the_end (is_power_of_two n) _ _
+    (not_among the_end (nat_le n 16) k.SmallPower _ refl (not_among the_end (nat_lt n (2 ^ 64)) k.Power k.GreatPower refl refl))
+    (not_among the_end (nat_lt n (2 ^ 64)) k.Count k.Great refl refl)
+
+integer_no_end : (text : List ℕ) → is_among the_end (integer_kind text) ≡ false
+unfolding is_same integer_kind
+integer_no_end text = not_among the_end (starts_with nat_eq text (codes "-") && not (number_of (digits_of text) == 0)) k.Negative _ refl (count_no_end (number_of (digits_of text)))
+
+no_end : (kind : TokenKind) (text : List ℕ) (equals integer : Bool) → is_among the_end (token_kind kind text equals integer) ≡ true → ⊥
+unfolding is_same
+no_end tokens.Word text e i h = let p : is_among the_end (other_word text) ≡ true = word_by the_end text refl refl refl refl h in let q = other_no_end text in cc
+no_end tokens.Label text e i h = cc
+no_end tokens.Integer text e i h = let q = integer_no_end text in cc
+no_end tokens.Float text e i h = cc
+no_end tokens.Local text true i h = cc
+no_end tokens.Local text false i h = cc
+no_end tokens.Global text e i h = neither_among the_end k.UsedGlobal k.Global refl refl (is_used_list text) h
+no_end tokens.MetaName text true i h = cc
+no_end tokens.MetaName text false i h = cc
+no_end tokens.MetaNumber text e i h = cc
+no_end tokens.Bang text e i h = cc
+no_end tokens.AttrNumber text e i h = cc
+no_end tokens.DebugRecord text e i h = cc
+no_end tokens.Text text e i h = neither_among the_end k.Text k.OtherLayout refl refl (is_layout_taken text) h
+no_end tokens.Bytes text e i h = cc
+no_end tokens.Mark text e i h = mark_without the_end text i refl refl refl refl h
+
+-- no token of a text is its end
+pub text_has_no_end : (source : List ℕ) (ts : List Token) → Each (λ t. is_among (k.End ∷ []) t.kind ≡ true → ⊥) (terminals_of source ts)
+text_has_no_end source [] = tt
+text_has_no_end source (t ∷ ts) = (no_end t.kind (bytes_of source t) (equals_follows source ts) (integer_follows ts), text_has_no_end source ts)
