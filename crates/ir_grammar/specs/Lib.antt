@@ -3,7 +3,6 @@ pub mod Conditions
 pub mod Constants
 pub mod DebugFields
 pub mod DebugNodes
-pub mod DebugText
 pub mod Grammar
 pub mod KindOf
 pub mod Kinds

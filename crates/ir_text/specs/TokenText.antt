@@ -1,4 +1,4 @@
--- What single tokens of metadata say: a string's bytes, a label's name, a node's number, a line or column. Strings and
+-- What single tokens say: a string's bytes, a name, a label's name, a node's number, a line or column. Strings and
 -- numbers are written as in the LLVM Language Reference ("Identifiers", "Metadata Nodes and Metadata Strings"); that a
 -- line or column out of range is 0 is this project's choice.
 use Rattle.std.specs.Prelude.{ℕ, zero, suc, List, [], ◌∷◌, length, take, drop, ◌+◌, ◌-◌, ◌*◌, ◌==◌, ◌&&◌, nat_le, if◌then◌else◌}
@@ -70,6 +70,10 @@ significant (b ∷ rest) = if b == 48 then significant rest else b ∷ rest
 abbrev pub number_behind_bang : List ℕ → List ℕ
 number_behind_bang bytes = significant (drop 1 bytes)
 
+-- the number that these digits write, 0 where they don't write one from 0 to 4,294,967,295
+abbrev pub small_number : List ℕ → ℕ
+small_number bytes = if list_all is_ascii_digit bytes && nat_le (digits_value 10 bytes) 4294967295 then digits_value 10 bytes else 0
+
 -- the line or column that these digits write, 0 where they don't write one from 0 to 4,294,967,295
 abbrev pub line_or_column : List ℕ → ℕ
-line_or_column bytes = if list_all is_ascii_digit bytes && nat_le (digits_value 10 bytes) 4294967295 then digits_value 10 bytes else 0
+line_or_column bytes = small_number bytes

@@ -1,6 +1,6 @@
 use Rattle.std.proofs.Common.{◌≡◌, length}
-use Rattle.ir_grammar.specs.DebugText.{significant}
-use Rattle.dbg_sites.proofs.node_text.significant.Given as goal
+use Rattle.ir_text.specs.TokenText.{significant}
+use Rattle.ir_text.proofs.numbers.significant.Given as goal
 
 abbrev pub invariant-loop-rest : goal.invariant-loop-rest
 invariant-loop-rest l = significant l.rest ≡ significant l.fn.digits

@@ -1,7 +1,7 @@
-ghost use Rattle.std.specs.Prelude.{◌≡◌, ◌+◌, ◌*◌, ◌-◌, ◌<◌, ◌≤◌, IfOk, IsTrue, drop, take, length};
+ghost use Rattle.std.specs.Prelude.{◌≡◌, ◌+◌, ◌*◌, ◌<◌, IfOk, IsTrue};
 ghost use Rattle.std.specs.Str.{bytes_eq};
 ghost use Rattle.std.specs.Char.{is_ascii_hexdigit, digit_value};
-ghost use Rattle.ir_grammar.specs.DebugText.{hexadecimal_byte, escaped_byte, front_byte, unescaped, between_quotes, string_bytes_of, name_bytes, label_name, significant, number_behind_bang, line_or_column};
+ghost use Rattle.ir_text.specs.TokenText.{hexadecimal_byte, escaped_byte, front_byte, unescaped};
 
 use hw_base::{ByteList, OutOfMemory};
 use std::alloc::Global;
@@ -85,7 +85,7 @@ fn front_byte(b: u8, rest: &[u8]) -> StringByte
 }
 
 /// The bytes that these stand for.
-fn unescape(alloc: Global, bytes: &[u8]) -> Result<ByteList, OutOfMemory>
+pub(crate) fn unescape(alloc: Global, bytes: &[u8]) -> Result<ByteList, OutOfMemory>
     ensures { IfOk result (λ out. out ≡ unescaped bytes.now) }
 {
     let mut out = ByteList::new(alloc);
@@ -105,7 +105,7 @@ fn unescape(alloc: Global, bytes: &[u8]) -> Result<ByteList, OutOfMemory>
 }
 
 /// Whether the bytes that these stand for are a name.
-fn unescapes_to(bytes: &[u8], name: &[u8]) -> bool
+pub(crate) fn unescapes_to(bytes: &[u8], name: &[u8]) -> bool
     ensures { result ≡ bytes_eq (unescaped bytes.now) name.now }
 {
     let mut taken = 0;
@@ -130,87 +130,4 @@ fn unescapes_to(bytes: &[u8], name: &[u8]) -> bool
         rest = after;
     }
     wanted.is_empty()
-}
-
-/// What stands between the first byte and the last.
-fn between_quotes(bytes: &[u8]) -> &[u8]
-    ensures { result.now ≡ between_quotes bytes.now }
-{
-    match bytes {
-        [] => bytes,
-        [_] => &bytes[1..],
-        [_, inner @ .., _] => inner,
-    }
-}
-
-/// The bytes that a string stands for.
-pub(crate) fn string_bytes(alloc: Global, bytes: &[u8]) -> Result<ByteList, OutOfMemory>
-    ensures { IfOk result (λ out. out ≡ string_bytes_of bytes.now) }
-{
-    unescape(alloc, between_quotes(bytes))
-}
-
-fn is_name(bytes: &[u8], name: &[u8]) -> bool
-    ensures { result ≡ bytes_eq (name_bytes bytes.now) name.now }
-{
-    match bytes {
-        [] => name.is_empty(),
-        [b, ..] => {
-            if *b == b'"' {
-                unescapes_to(between_quotes(bytes), name)
-            } else {
-                bytes == name
-            }
-        }
-    }
-}
-
-/// Whether a label gives this name.
-pub(crate) fn is_label_of(bytes: &[u8], name: &[u8]) -> bool
-    ensures { result ≡ bytes_eq (label_name bytes.now) name.now }
-{
-    let end = bytes.len().saturating_sub(1);
-    is_name(&bytes[..end], name)
-}
-
-fn significant(digits: &[u8]) -> &[u8]
-    ensures { result.now ≡ significant digits.now }
-{
-    let mut rest = digits;
-    while let [b, after @ ..] = rest {
-        if *b != b'0' {
-            return rest;
-        }
-        rest = after;
-    }
-    rest
-}
-
-/// The number behind a `!`, from its first digit that isn't 0 on.
-pub(crate) fn number_behind_bang(bytes: &[u8]) -> &[u8]
-    ensures { result.now ≡ number_behind_bang bytes.now }
-{
-    match bytes {
-        [] => bytes,
-        [_, digits @ ..] => significant(digits),
-    }
-}
-
-/// The line or column that digits write, 0 where they write none from 0 to 4,294,967,295.
-pub(crate) fn line_or_column(bytes: &[u8]) -> u32
-    ensures { result ≡ line_or_column bytes.now }
-{
-    let mut value: u64 = 0;
-    let mut rest = bytes;
-    while let [b, after @ ..] = rest {
-        if !b.is_ascii_digit() {
-            return 0;
-        }
-        value = value * 10 + u64::from(*b - b'0');
-        if value > 4_294_967_295 {
-            return 0;
-        }
-        rest = after;
-    }
-    value as u32
 }
