@@ -1,0 +1,6 @@
+pub mod Faults
+pub mod First
+pub mod Keys
+pub mod Meanings
+pub mod Numbers
+pub mod Places
