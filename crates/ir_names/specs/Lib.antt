@@ -4,3 +4,4 @@ pub mod Keys
 pub mod Meanings
 pub mod Numbers
 pub mod Places
+pub mod Sets

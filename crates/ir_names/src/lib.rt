@@ -17,7 +17,7 @@ mod resolve;
 mod types;
 
 pub use fault::{NameFault, NamesError};
-pub use laws::the_first_fault_is_before_all_others;
+pub use laws::{a_name_means_what_has_it, the_first_fault_is_before_all_others};
 pub use references::References;
 pub use resolve::resolve_names;
 
