@@ -24,10 +24,10 @@ parts fields Opaque = []
 parts fields (Pair width) = []
 
 -- this number's type is laid out
-abbrev IsLaid : List TypeLayout → ℕ → Type 0
+abbrev pub IsLaid : List TypeLayout → ℕ → Type 0
 IsLaid layouts n = is_loop (layout_at layouts n) ≡ false
 
-is_loop-capped : (l : TypeLayout) → is_loop (capped l) ≡ is_loop l
+pub is_loop-capped : (l : TypeLayout) → is_loop (capped l) ≡ is_loop l
 is_loop-capped (Known size align) = refl
 is_loop-capped NoSize = refl
 is_loop-capped Loop = refl
@@ -87,7 +87,7 @@ laid_fold packed layouts a (n ∷ ns) h all =
     (All-tail (IsLaid layouts) n ns all)
 
 -- a type is laid out exactly where all that it holds is
-parts_laid : (fields : List ℕ) (layouts : List TypeLayout) (t : IrType) → is_loop (type_layout fields layouts t) ≡ false → All (IsLaid layouts) (parts fields t)
+pub parts_laid : (fields : List ℕ) (layouts : List TypeLayout) (t : IrType) → is_loop (type_layout fields layouts t) ≡ false → All (IsLaid layouts) (parts fields t)
 parts_laid fields layouts Void h = All-nil (IsLaid layouts)
 parts_laid fields layouts (Int width) h = All-nil (IsLaid layouts)
 parts_laid fields layouts Ptr h = All-nil (IsLaid layouts)
@@ -150,7 +150,7 @@ laid_is_within layouts n h =
       | inr past ↦ let no : is_loop (layout_at layouts n) ≡ true = past_is_loop layouts n past in cc
     ]
 
-nothing_at_first : (types : List IrType) (fields : List ℕ) (n : ℕ) → layout_at (layouts_within types fields zero) n ≡ Loop
+pub nothing_at_first : (types : List IrType) (fields : List ℕ) (n : ℕ) → layout_at (layouts_within types fields zero) n ≡ Loop
 nothing_at_first types fields n =
     elim (cases_lt n (length types)) [
       | inl less ↦ get_or-map (λ _. Loop) types n Void Loop less

@@ -2,7 +2,7 @@
 -- the module's list of types under that number. A name is another word for the type that it leads to, by however many
 -- names (LLVM Language Reference, "Type System"). For each spelled type a list of leads has a number: for a name that of
 -- the type in its definition, for any other type its own.
-use Rattle.std.specs.Prelude.{ℕ, zero, suc, ◌^◌, ◌<◌, Bool, true, false, if◌then◌else◌, List, map, length, slice_get, slice_index_or, Option, Some, None}
+use Rattle.std.specs.Prelude.{◌≡◌, ℕ, zero, suc, ◌^◌, ◌<◌, Bool, true, false, if◌then◌else◌, List, map, length, slice_get, slice_index_or, Option, Some, None}
 use Rattle.std.specs.List.{range_with_len}
 use Rattle.ir_core.specs.declared.types.IrType.{IrType}
 use Rattle.ir_core.specs.declared.types.IrType.TheVariants.{Void, Int, Ptr, Array, Struct, Opaque}
@@ -78,3 +78,9 @@ FitsModule spelled.Metadata = Unit {0}
 FitsModule (spelled.Named name) = Unit {0}
 FitsModule (spelled.Array count item) = count < 2 ^ 64
 FitsModule (spelled.Struct first count packed) = (first < 2 ^ 32) × (count < 2 ^ 32)
+
+-- each type leads to a type, and one that is no name to itself
+pub record IsLeading (types : List SpelledType) (leads : List ℕ) : Type 0 where
+  pub same : length leads ≡ length types
+  pub inside : (n : ℕ) → n < length types → number_at leads n < length types
+  pub own : (n : ℕ) → is_no_name (slice_get types n) ≡ true → number_at leads n ≡ n

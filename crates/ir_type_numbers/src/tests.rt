@@ -9,7 +9,9 @@ use std::process::Abort;
 use std::test::Fail;
 
 mod chains_of_names;
+mod chains_of_types;
 mod names;
+mod same_types;
 
 /// Whether the numbers of a type fit those of a module's types.
 fn fits(ty: SpelledType) -> bool
