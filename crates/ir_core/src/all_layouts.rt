@@ -101,7 +101,11 @@ fn settle_all(types: &[IrType], fields: &[u32], layouts: &mut [TypeLayout])
 
 /// The types in an order in which each comes behind all that it holds, as far as there is one. Only the time rests on
 /// it: by this order every type that can be laid out is so the first time that it is tried.
-fn inner_first(alloc: Global, types: &[IrType], fields: &[u32]) -> Result<Vec<u32>, OutOfMemory> {
+pub fn inner_first(
+    alloc: Global,
+    types: &[IrType],
+    fields: &[u32],
+) -> Result<Vec<u32>, OutOfMemory> {
     let mut order = Vec::new(alloc);
     let mut seen = vec![in alloc; false; types.len()]?;
     let mut visits = Vec::new(alloc);

@@ -10,6 +10,7 @@ pub mod Loops
 pub mod Numbers
 pub mod Outcomes
 pub mod ParameterLists
+pub mod Ranged
 pub mod Resolved
 pub mod SharedKept
 pub mod SkippedRuns

@@ -13,6 +13,8 @@ use Rattle.ir_core.specs.declared.token.TokenKind.TheVariants as tokens
 use Rattle.ir_core.specs.contracts.token.TokenKind.{the_type}
 use denote.Enum.Bare.{sameb}
 use Rattle.ir_core.specs.Tokens.{bytes_of}
+use Rattle.ir_text.specs.Names.{is_used_list}
+use Rattle.ir_text.specs.DataLayout.{is_layout_taken}
 use Rattle.ir_grammar.specs.declared.kind.Kind.{Kind}
 use Rattle.ir_grammar.specs.declared.kind.Kind.TheVariants as k
 use Rattle.ir_grammar.specs.declared.terminal.Terminal.{Terminal}
@@ -188,20 +190,36 @@ unfoldable pub mark_kind : List ℕ → Bool → Kind
 mark_kind text integer =
     unwrap_or (kind_in mark_table text) (if bytes_eq text (codes "<") then (if integer then k.Vector else k.Less) else k.OtherMark)
 
+-- a local, and whether `=` follows it
+abbrev pub local_kind : Bool → Kind
+local_kind equals = if equals then k.LocalDefinition else k.Local
+
+-- a metadata name, and whether `=` follows it
+abbrev pub meta_name_kind : Bool → Kind
+meta_name_kind equals = if equals then k.MetaDefinition else k.MetaName
+
+-- a global; those that list what has to be kept are read in their own way
+abbrev pub global_kind : List ℕ → Kind
+global_kind text = if is_used_list text then k.UsedGlobal else k.Global
+
+-- a string, by the data layout that it would write
+abbrev pub text_kind : List ℕ → Kind
+text_kind text = if is_layout_taken text then k.Text else k.OtherLayout
+
 -- the kind of a token of this text; whether `=` and whether an integer follows it
 abbrev pub token_kind : TokenKind → List ℕ → Bool → Bool → Kind
 token_kind tokens.Word text equals integer = word_kind text
 token_kind tokens.Label text equals integer = k.Label
 token_kind tokens.Integer text equals integer = integer_kind text
 token_kind tokens.Float text equals integer = k.Float
-token_kind tokens.Local text equals integer = if equals then k.LocalDefinition else k.Local
-token_kind tokens.Global text equals integer = k.Global
-token_kind tokens.MetaName text equals integer = if equals then k.MetaDefinition else k.MetaName
+token_kind tokens.Local text equals integer = local_kind equals
+token_kind tokens.Global text equals integer = global_kind text
+token_kind tokens.MetaName text equals integer = meta_name_kind equals
 token_kind tokens.MetaNumber text equals integer = k.MetaNumber
 token_kind tokens.Bang text equals integer = k.Bang
 token_kind tokens.AttrNumber text equals integer = k.AttrNumber
 token_kind tokens.DebugRecord text equals integer = k.DebugRecord
-token_kind tokens.Text text equals integer = k.Text
+token_kind tokens.Text text equals integer = text_kind text
 token_kind tokens.Bytes text equals integer = k.Bytes
 token_kind tokens.Mark text equals integer = mark_kind text integer
 

@@ -6,7 +6,9 @@
 mod declares;
 mod globals;
 mod items;
+mod laws;
 mod nodes;
 mod whole;
 
+pub use laws::texts_are_modules;
 pub use whole::read_items;

@@ -1,9 +1,8 @@
-ghost use Rattle.std.specs.Prelude.{◌≡◌, [], ◌∷◌, MatchResult};
-ghost use Rattle.ir_grammar.specs.declared.kind.Kind.TheVariants.{MetaDefinition};
+ghost use Rattle.std.specs.Prelude.{◌≡◌, ◌≤◌, ◌*◌, length, All, IfOk};
 ghost use Rattle.ir_grammar.specs.Reading.{starts, first};
-ghost use Rattle.ir_grammar.specs.Words.{meta_names};
-ghost use Rattle.ir_grammar.specs.Grammar.{Reads, Fails, read, nesting_limit};
+ghost use Rattle.ir_grammar.specs.Grammar.{Reads};
 ghost use Rattle.ir_grammar.specs.Spelled.{store_of};
+ghost use Rattle.ir_grammar.specs.SoundStore.{IsInRange, IsSoundStore, size_of};
 ghost use Rattle.ir_read_items.specs.Items.{item, free_items, next_items, maybe_next_items, declare_group, declare_groups, module_rule};
 ghost use Rattle.ir_read_items.specs.ItemReading.{ReadsItems};
 
@@ -155,10 +154,8 @@ fn whole_module(reader: &mut Reader, levels: u32) -> Result<(), Failure>
     Ok(())
 }
 
-/// What a text spells, from its tokens with the end of the text behind them: its items in order of the text, with the
-/// types, constants and parameters that they name by number. The error is the flaw at the first token with which nothing
-/// of the grammar goes on, the bracket that opens the 65th level among them, or want of memory.
-pub fn read_items(alloc: Global, tokens: &[Terminal]) -> Result<Spellings, Failure>
+/// What a text spells, or its flaw.
+fn spelled(alloc: Global, tokens: &[Terminal]) -> Result<Spellings, Failure>
     ensures { ReadsItems tokens.now result }
 {
     let mut reader = Reader {
@@ -168,4 +165,17 @@ pub fn read_items(alloc: Global, tokens: &[Terminal]) -> Result<Spellings, Failu
     };
     whole_module(&mut reader, NESTING_LIMIT)?;
     Ok(reader.found)
+}
+
+/// What a text spells, from its tokens with the end of the text behind them: its items in order of the text, with the
+/// types, constants and parameters that they name by number. The error is the flaw at the first token with which nothing
+/// of the grammar goes on, the bracket that opens the 65th level among them, or want of memory.
+pub fn read_items(alloc: Global, tokens: &[Terminal]) -> Result<Spellings, Failure>
+    requires { All IsInRange tokens.now }
+    ensures spelled { ReadsItems tokens.now result }
+    ensures sound { IfOk result (λ found. IsSoundStore (store_of found)) }
+    ensures small { IfOk result (λ found. size_of (store_of found) ≤ 8 * length tokens.now) }
+{
+    let found = spelled(alloc, tokens)?;
+    Ok(found)
 }
