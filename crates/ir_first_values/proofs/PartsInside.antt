@@ -1,5 +1,5 @@
 -- A part of a type of at most 2^40 bytes lies within it.
-use Rattle.std.proofs.Common.{◌≡◌, ℕ, zero, suc, ◌+◌, ◌*◌, ◌^◌, ◌<◌, ◌≤◌, min, max, Bool, true, false, ◌&&◌, leb, cond, List, [], ◌∷◌, ◌++◌, map, fold, length, get_or, take, drop, slice_get, Option, Some, None, IfSome, arith, refl, sym, ◌∙◌, ap, ap₂}
+use Rattle.std.proofs.Common.{◌≡◌, ℕ, suc, ◌+◌, ◌*◌, ◌^◌, ◌<◌, ◌≤◌, Bool, true, false, leb, cond, List, [], ◌∷◌, ◌++◌, map, fold, length, get_or, take, drop, slice_get, Option, Some, None, IfSome, arith, refl, sym, ◌∙◌, ap, ap₂}
 use Rattle.std.proofs.lemmas.List.{map-append, get_or-map, take-append-drop, take-map}
 use Rattle.std.proofs.lemmas.List.Sums.{fold-append}
 use Rattle.std.proofs.lemmas.Option.{get_or_from_slice_get, slice_get_within}
@@ -8,7 +8,7 @@ use Rattle.std.proofs.Math.Nat.{mul-le-mul_right}
 use Rattle.std.proofs.lemmas.Bool.{leb-true, le-leb, and_from, and_parts}
 use Rattle.ir_core.proofs.Offsets.{exact_layout}
 use Rattle.ir_core.specs.Layout.{field_start, with_field, fields_layout, rounded, struct_layout, array_layout, layout_at, type_layout, field_types, exact_layouts, is_known, layout_size, layout_align, offset_in, field_offset_of, field_offset_by, has_size_of, alloc_size_of}
-use Rattle.ir_core.specs.Progress.{is_loop, type_at as type_or_void}
+use Rattle.ir_core.specs.Progress.{is_loop}
 use Rattle.ir_core.specs.declared.types.IrType.{IrType}
 use Rattle.ir_core.specs.declared.types.IrType.TheVariants.{Void, Int, Ptr, Array, Struct, Opaque, Pair}
 use Rattle.ir_core.specs.declared.types.TypeLayout.{TypeLayout}

@@ -1,5 +1,5 @@
 -- The pieces of a first value lie within its type.
-use Rattle.std.proofs.Common.{◌≡◌, ℕ, zero, suc, ◌+◌, ◌-◌, ◌*◌, ◌/◌, ◌%◌, ◌^◌, ◌<◌, ◌≤◌, Bool, true, false, not, ◌&&◌, leb, ltb, eqb, cond, List, [], ◌∷◌, ◌++◌, length, drop, take, slice_get, get_or, Option, Some, None, IfSome, All, arith, refl, sym, ◌∙◌, ap, subst, pow_pos}
+use Rattle.std.proofs.Common.{◌≡◌, ℕ, zero, suc, ◌+◌, ◌-◌, ◌*◌, ◌%◌, ◌^◌, ◌<◌, ◌≤◌, Bool, true, false, ◌&&◌, leb, ltb, eqb, cond, List, [], ◌∷◌, length, slice_get, Option, Some, None, IfSome, All, arith, refl, sym, ◌∙◌, ap, subst, pow_pos}
 use Rattle.std.proofs.lemmas.Bool.{leb-true, ltb-true, eqb-true, and_parts}
 use Rattle.std.proofs.lemmas.List.Elements.{All-nil, All-cons, All-head, All-tail, All-weaker, All-append, All-get_or}
 use Rattle.std.proofs.lemmas.Option.{slice_get_within, get_or_from_slice_get}
@@ -7,7 +7,7 @@ use Rattle.std.proofs.Math.Nat.{pow-le-pow_right}
 use Rattle.ir_core.specs.declared.types.IrType.{IrType}
 use Rattle.ir_core.specs.declared.types.IrType.TheVariants.{Void, Int, Ptr, Array, Struct, Opaque, Pair}
 use Rattle.ir_core.specs.declared.operands.Operand.{Operand}
-use Rattle.ir_core.specs.declared.operands.Operand.TheVariants.{Int as Number, Null, Global}
+use Rattle.ir_core.specs.declared.operands.Operand.TheVariants.{Int as Number, Null}
 use Rattle.ir_core.specs.declared.operands.Part.{Part}
 use Rattle.ir_core.specs.Layout.{int_store_size, int_layout, layout_size, exact_layouts, layout_at, is_known}
 use Rattle.ir_core.specs.Resolved.{IsPieceOf, IsPartWithin}
@@ -20,7 +20,7 @@ use Rattle.ir_first_values.specs.declared.parts.TypePart.{TypePart}
 use Rattle.ir_first_values.specs.declared.addresses.Address.{Address}
 use Rattle.ir_first_values.specs.Tables.{Tables, items_from, type_at, is_spelled, is_sized, part_of, part_by, is_array_of, is_struct_of, is_in_width, integer_modulo, integer_in}
 use Rattle.ir_first_values.specs.Addresses.{null_address, variable_address, moved, indexed, place_of, plain_address, address_by, address_of, if_there}
-use Rattle.ir_first_values.specs.FirstValues.{piece, number_piece, integer_value, bool_in, operand_of, address_value, zero_value, is_i8, is_i8_array_of, byte_piece, byte_pieces, bytes_value, string_of, flat_value, joined, element_by, elements_value, elements_of, nested_value, first_value}
+use Rattle.ir_first_values.specs.FirstValues.{piece, number_piece, integer_value, bool_in, operand_of, address_value, is_i8, is_i8_array_of, byte_piece, byte_pieces, bytes_value, string_of, flat_value, joined, element_by, elements_value, elements_of, nested_value, first_value}
 use Rattle.ir_first_values.specs.Pieces.{IsPieceIn, AreNumbered}
 use Rattle.ir_first_values.specs.Answers.{behind}
 use Rattle.ir_first_values.proofs.TextBytes.{IsByte, string_small}

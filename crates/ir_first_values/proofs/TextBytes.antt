@@ -1,12 +1,12 @@
 -- The bytes that a string stands for are bytes.
-use Rattle.std.proofs.Common.{◌≡◌, ℕ, zero, suc, ◌+◌, ◌-◌, ◌*◌, ◌<◌, ◌≤◌, Bool, true, false, ◌&&◌, cond, List, [], ◌∷◌, length, take, drop, All, arith, refl}
+use Rattle.std.proofs.Common.{◌≡◌, ℕ, zero, suc, ◌+◌, ◌*◌, ◌<◌, Bool, true, false, ◌&&◌, cond, List, [], ◌∷◌, drop, All, arith, refl}
 use Rattle.std.proofs.lemmas.Bool.{and_parts}
 use Rattle.std.proofs.lemmas.Bool.Decides.{nat_tests}
 use Rattle.std.proofs.lemmas.List.Elements.{All-nil, All-cons, All-head, All-tail, All-take, All-drop}
 use Rattle.std.specs.Char.{is_ascii_hexdigit, digit_value}
 use Rattle.ir_core.specs.declared.token.Token.{Token}
 use Rattle.ir_core.specs.Tokens.{bytes_of}
-use Rattle.ir_text.specs.TokenText.{StringByte, plain_backslash, hexadecimal_byte, escaped_byte, front_byte, unescaped_behind, between_quotes, string_bytes_of}
+use Rattle.ir_text.specs.TokenText.{StringByte, plain_backslash, hexadecimal_byte, escaped_byte, front_byte, unescaped_behind, between_quotes}
 use Rattle.ir_first_values.specs.Tables.{Tables}
 use Rattle.ir_first_values.specs.FirstValues.{string_of}
 
@@ -25,9 +25,9 @@ hexadecimal_small high [] = omega arith
 hexadecimal_small high (low ∷ rest) =
     chosen_small (is_ascii_hexdigit high && is_ascii_hexdigit low) (record { byte = 16 * digit_value high + digit_value low; more = 2 }) plain_backslash
     (λ h. let both = and_parts (is_ascii_hexdigit high) (is_ascii_hexdigit low) h in
-        let a : digit_value high < 16 = digit_small high both.0 in
-        let b : digit_value low < 16 = digit_small low both.1 in
-        omega arith)
+    let a : digit_value high < 16 = digit_small high both.0 in
+    let b : digit_value low < 16 = digit_small low both.1 in
+    omega arith)
     (omega arith)
 
 escaped_small : (rest : List ℕ) → (escaped_byte rest).byte < 256

@@ -1,5 +1,5 @@
 -- The first value of a constant by its levels.
-use Rattle.std.proofs.Common.{◌≡◌, ℕ, zero, suc, ◌+◌, ◌-◌, ◌<◌, ◌≤◌, List, length, get_or, drop, slice_get, Option, Some, None, Err, refl, sym, ◌∙◌, ap, arith}
+use Rattle.std.proofs.Common.{◌≡◌, ℕ, zero, suc, ◌<◌, List, length, get_or, drop, slice_get, Option, Some, None, Err, sym, ◌∙◌, ap, arith}
 use Rattle.ir_core.specs.declared.operands.Part.{Part}
 use Rattle.ir_grammar.specs.declared.spelled.SpelledConstant.{SpelledConstant}
 use Rattle.ir_grammar.specs.declared.spelled.TypedConstant.{TypedConstant}

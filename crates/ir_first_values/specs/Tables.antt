@@ -1,7 +1,7 @@
 -- What first values are made from: the types of a module, the constants as they are spelled, and what spelled types and
 -- names stand for. Integers and the parts of types are read here; both are as in the LLVM Language Reference ("Simple
 -- Constants", "Complex Constants").
-use Rattle.std.specs.Prelude.{ℕ, ◌≡◌, ◌+◌, ◌-◌, ◌*◌, ◌%◌, ◌^◌, ◌==◌, ◌&&◌, nat_le, nat_lt, Bool, true, false, not, if◌then◌else◌, List, take, drop, length, slice_get, Option, Some, None}
+use Rattle.std.specs.Prelude.{ℕ, ◌≡◌, ◌-◌, ◌*◌, ◌%◌, ◌^◌, ◌==◌, ◌&&◌, nat_le, nat_lt, Bool, true, false, not, if◌then◌else◌, List, take, drop, slice_get, Option, Some, None}
 use Rattle.ir_core.specs.declared.types.IrType.{IrType}
 use Rattle.ir_core.specs.declared.types.IrType.TheVariants.{Int, Array, Struct}
 use Rattle.ir_core.specs.Layout.{has_size_of, alloc_size_of, field_offset_of, field_types, AreFieldOffsets}

@@ -6,7 +6,7 @@ ghost use Rattle.ir_first_values.specs.Tables.{tables_of, type_at, counted_offse
 
 use crate::Initializers;
 use hw_base::OutOfMemory;
-use ir_core::{field_types, IrType};
+use ir_core::{IrType, field_types};
 use std::alloc::Global;
 
 /// 2^40 bytes: the size of a type above which a module is refused.

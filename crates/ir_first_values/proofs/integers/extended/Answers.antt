@@ -1,5 +1,4 @@
-use Rattle.std.proofs.Common.{◌≡◌, ◌-◌, ◌%◌, ◌^◌, sym, ◌∙◌, ap, arith, suc}
-use Rattle.ir_arith.specs.TwosComplement.{signed_of, unsigned_of}
+use Rattle.std.proofs.Common.{◌-◌, ◌%◌, ◌^◌, sym, ◌∙◌, ap, arith}
 use Rattle.ir_first_values.proofs.Extending.{extended_low, extended_high}
 use Rattle.ir_first_values.proofs.integers.extended.Goals as goal
 

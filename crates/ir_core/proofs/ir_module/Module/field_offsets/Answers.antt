@@ -1,6 +1,5 @@
 use Rattle.std.proofs.Common.{◌≡◌, Result, Ok, Err, IfOk, slice_get, Some, sym, ◌∙◌, ap}
-use Rattle.ir_core.specs.Layout.{field_types, AreFieldOffsets}
-use Rattle.ir_core.specs.Starts.{AreStarts}
+use Rattle.ir_core.specs.Layout.{field_types}
 use Rattle.ir_core.specs.declared.types.IrType.TheVariants.{Struct}
 use Rattle.ir_core.proofs.FieldStarts.{field_offsets_kept}
 use Rattle.ir_core.proofs.ir_module.Module.field_offsets.Goals as goal
@@ -19,5 +18,5 @@ returns-in-Some-Struct c =
     c.field_types-types.ensures ∙ ap (λ fs. field_types fs c.in-Some-Struct.first c.in-Some-Struct.count) c.as_slice.ensures in
     if_ok _ _ c.offsets_in.result
     (λ starts made. field_offsets_kept types fields c.args.ty c.in-Some-Struct.first c.in-Some-Struct.count c.in-Some-Struct.packed c.as_slice-in-Some-Struct.result.now c.field_types-types.result.now starts.items
-        struct (c.as_slice-in-Some-Struct.ensures ∙ c.requires.layouts) numbers c.requires.fits.sized c.requires.fits.small made)
+    struct (c.as_slice-in-Some-Struct.ensures ∙ c.requires.layouts) numbers c.requires.fits.sized c.requires.fits.small made)
     c.offsets_in.ensures

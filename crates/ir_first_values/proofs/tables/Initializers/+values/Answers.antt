@@ -1,4 +1,4 @@
-use Rattle.std.proofs.Common.{◌≡◌, ◌+◌, ◌-◌, Some, suc, sym, ◌∙◌, ap, subst, arith, slice_get, None}
+use Rattle.std.proofs.Common.{◌≡◌, ◌+◌, ◌-◌, suc, sym, ◌∙◌, ap, subst, arith}
 use Rattle.ir_first_values.specs.Tables.{tables_of}
 use Rattle.ir_first_values.specs.FirstValues.{nested_value, first_value}
 use Rattle.ir_first_values.specs.Answers.{Puts}
