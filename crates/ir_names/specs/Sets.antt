@@ -10,5 +10,5 @@ DefinesType other = ⊥
 -- the item defines a global variable or declares a function
 abbrev pub DefinesGlobal : SpelledItem → Type 0
 DefinesGlobal (Global name constant ty value) = Unit {0}
-DefinesGlobal (Declare name res first count) = Unit {0}
+DefinesGlobal (Declare name result first count) = Unit {0}
 DefinesGlobal other = ⊥
