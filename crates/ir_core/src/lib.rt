@@ -19,7 +19,7 @@ mod token_list;
 mod type_layouts;
 mod types;
 
-pub use all_layouts::layouts;
+pub use all_layouts::{inner_first, layouts};
 pub use externals::external;
 pub use faults::{Fault, Limit};
 pub use ir_module::{
@@ -36,6 +36,7 @@ pub use operations::Op;
 pub use refusals::{Place, ReadError, Refusal};
 pub use token::{Token, TokenKind};
 pub use token_list::Tokens;
+pub use type_layouts::field_types;
 pub use types::{IrType, LayoutList, TypeIdList, TypeLayout, TypeList};
 
 #[cfg(test)]

@@ -8,10 +8,12 @@ pub mod KindOf
 pub mod Kinds
 pub mod Laws
 pub mod Names
+pub mod Parameters
 pub mod Prefixes
 pub mod Reading
 pub mod Rules
 pub mod Skipped
+pub mod SoundStore
 pub mod Spelled
 pub mod Types
 pub mod Words

@@ -1,6 +1,6 @@
 use Rattle.std.proofs.Common.{length, ◌-◌, ◌≡◌}
 use Rattle.ir_lex.proofs.Scans.{IsScanned}
-use Rattle.ir_lex.proofs.lexer.lex.Given as goal
+use Rattle.ir_lex.proofs.lexer.tokens_of.Given as goal
 
 abbrev pub invariant-loop-cursor : goal.invariant-loop-cursor
 invariant-loop-cursor l = record {

@@ -1,0 +1,4 @@
+pub mod Classing
+pub mod Leading
+pub mod Sameness
+pub mod Words

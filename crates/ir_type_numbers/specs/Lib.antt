@@ -1,0 +1,4 @@
+pub mod Numbering
+pub mod SameTypes
+pub mod Shapes
+pub mod WordMap
