@@ -102,7 +102,7 @@ parts_laid fields layouts (Struct first count packed) h =
 parts_laid fields layouts Opaque h = All-nil (IsLaid layouts)
 parts_laid fields layouts (Pair width) h = All-nil (IsLaid layouts)
 
-laid_parts : (fields : List ℕ) (layouts : List TypeLayout) (t : IrType) → All (IsLaid layouts) (parts fields t) → is_loop (type_layout fields layouts t) ≡ false
+pub laid_parts : (fields : List ℕ) (layouts : List TypeLayout) (t : IrType) → All (IsLaid layouts) (parts fields t) → is_loop (type_layout fields layouts t) ≡ false
 laid_parts fields layouts Void all = refl
 laid_parts fields layouts (Int width) all = refl
 laid_parts fields layouts Ptr all = refl
