@@ -7,7 +7,7 @@ use Rattle.std.proofs.lemmas.List.{take_all}
 use Rattle.std.proofs.lemmas.Slice.Eq.{bytes_eq-Decides}
 use Rattle.std.proofs.lemmas.Bool.Decides.{same_from_decides}
 use Rattle.ir_grammar.specs.DebugNodes.{has_number, place_of, node_named, is_meta_number_kind}
-use Rattle.ir_grammar.specs.DebugText.{number_behind_bang}
+use Rattle.ir_text.specs.TokenText.{number_behind_bang}
 use Rattle.ir_grammar.specs.DebugFields.{Lexeme}
 use Rattle.ir_grammar.specs.DebugNodes.{Definition}
 use Rattle.dbg_sites.specs.declared.definitions.KeptNode.{KeptNode}

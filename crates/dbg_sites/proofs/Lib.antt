@@ -1,5 +1,4 @@
 pub mod Bounds
 pub mod ChainLemmas
 pub mod Index
-pub mod Texts
 pub mod Values

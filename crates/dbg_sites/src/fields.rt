@@ -1,15 +1,15 @@
 ghost use Rattle.std.specs.Prelude.{◌≡◌, ◌&&◌, ◌||◌};
 ghost use Rattle.std.specs.Option.{option_map};
 ghost use Rattle.ir_grammar.specs.DebugFields.{lexeme, closes, is_comma, is_label_kind, first_field, only_token};
-ghost use Rattle.ir_grammar.specs.DebugText.{label_name};
+ghost use Rattle.ir_text.specs.TokenText.{label_name};
 ghost use Rattle.ir_core.specs.Tokens.{bytes_of};
 ghost use Rattle.std.specs.Str.{bytes_eq};
 ghost use Rattle.dbg_sites.specs.Read.{fields_in, value_in};
 ghost use Rattle.ir_grammar.specs.DebugNodes.{field_token};
 
-use crate::node_text::is_label_of;
 use crate::token_tests::{closes, depth_behind, is_comma, is_label_kind, opens};
 use ir_core::{Token, Tokens};
+use ir_text::is_label_of;
 
 fn ends_value(tokens: &Tokens, token: &Token) -> bool
     ensures { result ≡ (closes (lexeme tokens.now.source token.now) || is_comma (lexeme tokens.now.source token.now)) }

@@ -7,7 +7,6 @@
 mod definitions;
 mod fields;
 mod laws;
-mod node_text;
 mod nodes;
 mod numbers;
 mod token_tests;

@@ -4,11 +4,11 @@ ghost use Rattle.dbg_sites.specs.Read.{fields_in, definition_of, definitions_of,
 
 use crate::definitions::{KeptNode, kept_nodes};
 use crate::fields::field_token;
-use crate::node_text::{line_or_column, string_bytes};
 use crate::numbers::{location_field, node_field, places_of};
 use crate::token_tests::{is_integer_kind, is_text_kind};
 use hw_base::{ByteList, OutOfMemory};
 use ir_core::{Meta, Node, NodeKind, Token, Tokens};
+use ir_text::{line_or_column, string_bytes};
 use std::alloc::Global;
 use std::collections::BTreeMap;
 

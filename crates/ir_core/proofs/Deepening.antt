@@ -7,21 +7,12 @@ use Rattle.std.proofs.lemmas.List.Sums.{sum_by-set, count_by-le-length}
 use Rattle.std.proofs.Math.ListN.{length-map, length-set}
 use Rattle.ir_core.proofs.Capping.{type_layout-capped, layout_at-capped}
 use Rattle.ir_core.specs.Layout.{array_layout, with_field, fields_layout, rounded, struct_layout, layout_at, capped, type_layout, field_types, layouts_within, layouts_of, exact_layouts}
+use Rattle.ir_core.specs.Holding.{held}
 use Rattle.ir_core.specs.Progress.{is_loop, laid_out, type_at, IsPartial, IsClosedAt, IsClosed}
 use Rattle.ir_core.specs.declared.types.IrType.{IrType}
 use Rattle.ir_core.specs.declared.types.IrType.TheVariants.{Void, Int, Ptr, Array, Struct, Opaque, Pair}
 use Rattle.ir_core.specs.declared.types.TypeLayout.{TypeLayout}
 use Rattle.ir_core.specs.declared.types.TypeLayout.TheVariants.{Known, NoSize, Loop}
-
--- the numbers of the types that a type holds
-abbrev pub parts : List ℕ → IrType → List ℕ
-parts fields Void = []
-parts fields (Int width) = []
-parts fields Ptr = []
-parts fields (Array count item) = item ∷ []
-parts fields (Struct first count packed) = field_types fields first count
-parts fields Opaque = []
-parts fields (Pair width) = []
 
 -- this number's type is laid out
 abbrev pub IsLaid : List TypeLayout → ℕ → Type 0
@@ -42,7 +33,7 @@ is_loop-array count (Known size align) = refl
 is_loop-array count NoSize = refl
 is_loop-array count Loop = refl
 
-loop_is : (l : TypeLayout) → is_loop l ≡ true → l ≡ Loop
+pub loop_is : (l : TypeLayout) → is_loop l ≡ true → l ≡ Loop
 loop_is (Known size align) h = cc
 loop_is NoSize h = cc
 loop_is Loop h = refl
@@ -87,7 +78,7 @@ laid_fold packed layouts a (n ∷ ns) h all =
     (All-tail (IsLaid layouts) n ns all)
 
 -- a type is laid out exactly where all that it holds is
-pub parts_laid : (fields : List ℕ) (layouts : List TypeLayout) (t : IrType) → is_loop (type_layout fields layouts t) ≡ false → All (IsLaid layouts) (parts fields t)
+pub parts_laid : (fields : List ℕ) (layouts : List TypeLayout) (t : IrType) → is_loop (type_layout fields layouts t) ≡ false → All (IsLaid layouts) (held fields t)
 parts_laid fields layouts Void h = All-nil (IsLaid layouts)
 parts_laid fields layouts (Int width) h = All-nil (IsLaid layouts)
 parts_laid fields layouts Ptr h = All-nil (IsLaid layouts)
@@ -102,7 +93,7 @@ parts_laid fields layouts (Struct first count packed) h =
 parts_laid fields layouts Opaque h = All-nil (IsLaid layouts)
 parts_laid fields layouts (Pair width) h = All-nil (IsLaid layouts)
 
-pub laid_parts : (fields : List ℕ) (layouts : List TypeLayout) (t : IrType) → All (IsLaid layouts) (parts fields t) → is_loop (type_layout fields layouts t) ≡ false
+pub laid_parts : (fields : List ℕ) (layouts : List TypeLayout) (t : IrType) → All (IsLaid layouts) (held fields t) → is_loop (type_layout fields layouts t) ≡ false
 laid_parts fields layouts Void all = refl
 laid_parts fields layouts (Int width) all = refl
 laid_parts fields layouts Ptr all = refl
@@ -126,7 +117,7 @@ map_same a b (n ∷ ns) all =
     cc
 
 -- a type's layout is that of what it holds
-type_layout_same : (fields : List ℕ) (a b : List TypeLayout) (t : IrType) → All (Same a b) (parts fields t) → type_layout fields a t ≡ type_layout fields b t
+type_layout_same : (fields : List ℕ) (a b : List TypeLayout) (t : IrType) → All (Same a b) (held fields t) → type_layout fields a t ≡ type_layout fields b t
 type_layout_same fields a b Void all = refl
 type_layout_same fields a b (Int width) all = refl
 type_layout_same fields a b Ptr all = refl
@@ -140,7 +131,7 @@ length-within types fields zero = length-map types (λ _. Loop)
 length-within types fields (suc k) = length-map types (type_layout fields (layouts_within types fields k))
 
 -- a number past the end isn't laid out
-past_is_loop : (layouts : List TypeLayout) (n : ℕ) → length layouts ≤ n → is_loop (layout_at layouts n) ≡ true
+pub past_is_loop : (layouts : List TypeLayout) (n : ℕ) → length layouts ≤ n → is_loop (layout_at layouts n) ≡ true
 past_is_loop layouts n h = ap is_loop (get_or_past layouts n Loop h)
 
 pub laid_is_within : (layouts : List TypeLayout) (n : ℕ) → IsLaid layouts n → n < length layouts
@@ -169,8 +160,8 @@ deeper types fields (suc k) n h =
     let below : layout_at (layouts_within types fields (suc k)) n ≡ type_layout fields (layouts_within types fields k) t = within_more types fields k n inside in
     let above : layout_at (layouts_within types fields (suc (suc k))) n ≡ type_layout fields (layouts_within types fields (suc k)) t = within_more types fields (suc k) n inside in
     let laid : is_loop (type_layout fields (layouts_within types fields k) t) ≡ false = sym (ap is_loop below) ∙ h in
-    let all : All (Same (layouts_within types fields (suc k)) (layouts_within types fields k)) (parts fields t) =
-    All-weaker (IsLaid (layouts_within types fields k)) (Same (layouts_within types fields (suc k)) (layouts_within types fields k)) (λ m known. deeper types fields k m known) (parts fields t) (parts_laid fields (layouts_within types fields k) t laid) in
+    let all : All (Same (layouts_within types fields (suc k)) (layouts_within types fields k)) (held fields t) =
+    All-weaker (IsLaid (layouts_within types fields k)) (Same (layouts_within types fields (suc k)) (layouts_within types fields k)) (λ m known. deeper types fields k m known) (held fields t) (parts_laid fields (layouts_within types fields k) t laid) in
     above ∙ (type_layout_same fields (layouts_within types fields (suc k)) (layouts_within types fields k) t all ∙ sym below)
 
 -- and any number of types deeper
@@ -198,8 +189,8 @@ right_one : (types : List IrType) (fields : List ℕ) (layouts : List TypeLayout
 right_one types fields layouts n p h laid =
     let t : IrType = type_at types n in
     let exact : List TypeLayout = layouts_within types fields (laid_out layouts) in
-    let all : All (Same layouts (map capped exact)) (parts fields t) =
-    All-weaker (IsLaid layouts) (Same layouts (map capped exact)) (λ m known. p.right m known ∙ sym (layout_at-capped exact m)) (parts fields t) (parts_laid fields layouts t laid) in
+    let all : All (Same layouts (map capped exact)) (held fields t) =
+    All-weaker (IsLaid layouts) (Same layouts (map capped exact)) (λ m known. p.right m known ∙ sym (layout_at-capped exact m)) (held fields t) (parts_laid fields layouts t laid) in
     ap capped (type_layout_same fields layouts (map capped exact) t all) ∙ (type_layout-capped fields exact t ∙ ap capped (sym (within_more types fields (laid_out layouts) n h)))
 
 -- one more is laid out
@@ -258,8 +249,8 @@ complete types fields layouts closed (suc k) n h =
     let inside : n < length types = subst (λ m. n < m) (length-within types fields (suc k)) (laid_is_within (layouts_within types fields (suc k)) n h) in
     let t : IrType = type_at types n in
     let e : layout_at (layouts_within types fields (suc k)) n ≡ type_layout fields (layouts_within types fields k) t = within_more types fields k n inside in
-    let all : All (IsLaid layouts) (parts fields t) =
-    All-weaker (IsLaid (layouts_within types fields k)) (IsLaid layouts) (λ m known. complete types fields layouts closed k m known) (parts fields t)
+    let all : All (IsLaid layouts) (held fields t) =
+    All-weaker (IsLaid (layouts_within types fields k)) (IsLaid layouts) (λ m known. complete types fields layouts closed k m known) (held fields t)
     (parts_laid fields (layouts_within types fields k) t (sym (ap is_loop e) ∙ h)) in
     let laid : is_loop (type_layout fields layouts t) ≡ false = laid_parts fields layouts t all in
     elim (cases_Bool (is_loop (layout_at layouts n))) [

@@ -1,4 +1,5 @@
 pub mod Capping
+pub mod Circles
 pub mod Deepening
 pub mod Decimals
 pub mod Names

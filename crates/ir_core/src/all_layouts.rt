@@ -1,5 +1,7 @@
-ghost use Rattle.std.specs.Prelude.{◌≡◌, ℕ, ◌<◌, ◌≤◌, List, map, length, IfOk, IsTrue, IsFalse};
-ghost use Rattle.ir_core.specs.Layout.{layouts_of};
+ghost use Rattle.std.specs.Prelude.{◌≡◌, ℕ, ◌<◌, ◌≤◌, ◌↔◌, List, map, length, IfOk, IsTrue, IsFalse};
+ghost use Rattle.ir_core.specs.Layout.{layout_at, layouts_of};
+ghost use Rattle.ir_core.specs.Holding.{IsCircular};
+ghost use Rattle.ir_core.specs.declared.types.TypeLayout.TheVariants.{Loop};
 ghost use Rattle.ir_core.specs.Progress.{is_loop, laid_out, IsPartial, IsClosedAt, IsClosed};
 
 use crate::type_layouts::{field_types, layout_at, type_layout};
@@ -25,7 +27,8 @@ pub fn layouts(
     types: &TypeList,
     fields: &TypeIdList,
 ) -> Result<LayoutList, OutOfMemory>
-    ensures { IfOk result (λ layouts. layouts ≡ layouts_of types.now fields.now) }
+    ensures layouts { IfOk result (λ layouts. layouts ≡ layouts_of types.now fields.now) }
+    ensures circular { IfOk result (λ layouts. (n : ℕ) → (layout_at layouts n ≡ Loop) ↔ IsCircular types.now fields.now n) }
 {
     let types = types.as_slice();
     let fields = fields.as_slice();

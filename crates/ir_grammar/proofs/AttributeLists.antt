@@ -18,12 +18,13 @@ use Rattle.ir_grammar.proofs.First.{shortens}
 use Rattle.ir_grammar.proofs.Loops.{skip_more, skip_done, skip_failed}
 
 pub attribute_kinds : (c : Context) (j : Kind) → is_among (first (attribute c)) j
-    ≡ ((is_among (attribute_words c) j || is_among (k.Align ∷ k.CallingConvention ∷ k.Text ∷ k.AttrNumber ∷ []) j) || is_among (refused_attributes c) j)
+    ≡ ((is_among (attribute_words c) j || is_among (k.Align ∷ k.CallingConvention ∷ k.Text ∷ k.OtherLayout ∷ k.AttrNumber ∷ []) j) || is_among (refused_attributes c) j)
 unfolding is_same attribute word_attribute align_attribute convention_attribute text_attribute
 attribute_kinds at.Plain k.Equals = refl
 attribute_kinds at.Global k.Equals = refl
 attribute_kinds at.GlobalTail k.Equals = refl
 attribute_kinds at.Declare k.Equals = refl
+attribute_kinds at.Parameter k.Equals = refl
 attribute_kinds at.DeclareTail k.Equals = refl
 attribute_kinds _ _ = refl
 

@@ -9,7 +9,7 @@ use Rattle.ir_core.specs.declared.token.Token.{Token}
 use Rattle.ir_core.specs.declared.meta.Node.{Node}
 use Rattle.ir_core.specs.declared.meta.NodeKind.{NodeKind}
 use Rattle.ir_core.specs.declared.meta.NodeKind.TheVariants.{Location, Subprogram, File, Other}
-use Rattle.ir_grammar.specs.DebugText.{number_behind_bang}
+use Rattle.ir_text.specs.TokenText.{number_behind_bang}
 use Rattle.ir_grammar.specs.DebugFields.{Lexeme, lexemes, Field}
 use Rattle.ir_grammar.specs.DebugNodes.{Definition, definitions, has_number, place_of, field_token, node_named, node_field, is_location_kind, is_location_at, if_location, location_field, is_meta_number_kind, node_as, node_of, kept_nodes, IsThere, IsLocationThere, IsResolved}
 

@@ -15,15 +15,15 @@ use Rattle.ir_grammar.specs.Skipped.{in_parens, in_squares, in_braces, any_part,
 use Rattle.ir_grammar.proofs.First.{shortens}
 use Rattle.ir_grammar.proofs.Loops.{skip_more, skip_done, skip_failed}
 
--- a run goes on at each kind but a closing bracket
-pub goes_on_at : (j : Kind) → is_among (first any_part) j ≡ not (is_among (k.CloseParen ∷ k.CloseSquare ∷ k.CloseBrace ∷ []) j)
+-- a run goes on at each kind but a closing bracket and the end of the text
+pub goes_on_at : (j : Kind) → is_among (first any_part) j ≡ not (is_among (k.CloseParen ∷ k.CloseSquare ∷ k.CloseBrace ∷ k.End ∷ []) j)
 unfolding is_same in_parens in_squares in_braces any_part
 goes_on_at k.Equals = refl
 goes_on_at _ = refl
 
--- the kinds that are no bracket
+-- the kinds that are no bracket, and not the end of the text
 pub no_bracket : (j : Kind) → is_among all_but_brackets j
-    ≡ not (is_among (k.OpenParen ∷ k.CloseParen ∷ k.OpenSquare ∷ k.CloseSquare ∷ k.OpenBrace ∷ k.CloseBrace ∷ []) j)
+    ≡ not (is_among (k.OpenParen ∷ k.CloseParen ∷ k.OpenSquare ∷ k.CloseSquare ∷ k.OpenBrace ∷ k.CloseBrace ∷ k.End ∷ []) j)
 unfolding is_same
 no_bracket k.Equals = refl
 no_bracket _ = refl

@@ -17,5 +17,6 @@ type_kinds at.Plain k.Equals = refl
 type_kinds at.Global k.Equals = refl
 type_kinds at.GlobalTail k.Equals = refl
 type_kinds at.Declare k.Equals = refl
+type_kinds at.Parameter k.Equals = refl
 type_kinds at.DeclareTail k.Equals = refl
 type_kinds _ _ = refl

@@ -44,6 +44,7 @@ type_full at.Plain = refl
 type_full at.Global = refl
 type_full at.GlobalTail = refl
 type_full at.Declare = refl
+type_full at.Parameter = refl
 type_full at.DeclareTail = refl
 
 pub types_none : (c : Context) (levels : ℕ) (ts : List Terminal) (st : Store)

@@ -5,50 +5,59 @@ use Rattle.ir_grammar.specs.declared.context.Context.TheVariants as at
 use Rattle.ir_grammar.specs.Kinds.{is_same}
 use Rattle.ir_grammar.specs.Rules.{base}
 use Rattle.ir_grammar.specs.Conditions.{is_clear, has, goes_on, IsWellFormed}
-use Rattle.ir_grammar.specs.Names.{Name, number, array_inside, types_inside, elements_inside, address_inside, any_inside, sort_of, shared}
+use Rattle.ir_grammar.specs.Names.{Name, number, constant, array_inside, types_inside, elements_inside, address_inside, parameters_inside, any_inside, sort_of, shared}
 use Rattle.ir_grammar.specs.Grammar.{production}
 use Rattle.ir_grammar.specs.Skipped.{in_parens, in_squares, in_braces, any_part, any_run}
 use Rattle.ir_grammar.specs.Types.{int_type, named_type, array_type, braced_types, struct_type, packed_type, other_type, type_rule, array_rule, comma_type, more_types, types_rule, ptr_word}
+use Rattle.ir_grammar.specs.Attributes.{alignment, word_attribute, align_attribute, convention_attribute, text_attribute, attribute, attributes}
+use Rattle.ir_grammar.specs.Parameters.{maybe_local, parameter_rule, comma_parameter, more_parameters, parameters_rule}
 use Rattle.ir_grammar.specs.Constants.{integer_value, name_value, word_value, flag, flags, address_parens, address_value, value_rule, squared_constants, braced_constants, array_constant, struct_constant, packed_constant, constant_rule, typed_constant, comma_constant, more_elements, elements_rule, comma_index, indices, address_base, address_rule}
 
 clear : (n : Name) → is_clear shared production (sort_of n) (production n) ≡ true
-unfolding is_same in_parens in_squares in_braces any_part any_run int_type named_type array_type braced_types struct_type packed_type other_type type_rule array_rule comma_type more_types types_rule ptr_word integer_value name_value word_value flag flags address_parens address_value value_rule squared_constants braced_constants array_constant struct_constant packed_constant constant_rule typed_constant comma_constant more_elements elements_rule comma_index indices address_base address_rule
+unfolding is_same in_parens in_squares in_braces any_part any_run int_type named_type array_type braced_types struct_type packed_type other_type type_rule array_rule comma_type more_types types_rule ptr_word integer_value name_value word_value flag flags address_parens address_value value_rule squared_constants braced_constants array_constant struct_constant packed_constant constant_rule typed_constant comma_constant more_elements elements_rule comma_index indices address_base address_rule alignment word_attribute align_attribute convention_attribute text_attribute attribute attributes maybe_local parameter_rule comma_parameter more_parameters parameters_rule
 clear (array_inside at.Plain) = refl
 clear (array_inside at.Global) = refl
 clear (array_inside at.GlobalTail) = refl
 clear (array_inside at.Declare) = refl
+clear (array_inside at.Parameter) = refl
 clear (array_inside at.DeclareTail) = refl
 clear (types_inside at.Plain) = refl
 clear (types_inside at.Global) = refl
 clear (types_inside at.GlobalTail) = refl
 clear (types_inside at.Declare) = refl
+clear (types_inside at.Parameter) = refl
 clear (types_inside at.DeclareTail) = refl
 clear elements_inside = refl
 clear address_inside = refl
+clear parameters_inside = refl
 clear any_inside = refl
 
 shallow : (n : Name) → has false (production n) ≡ true
-unfolding in_parens in_squares in_braces any_part any_run int_type named_type array_type braced_types struct_type packed_type other_type type_rule array_rule comma_type more_types types_rule ptr_word integer_value name_value word_value flag flags address_parens address_value value_rule squared_constants braced_constants array_constant struct_constant packed_constant constant_rule typed_constant comma_constant more_elements elements_rule comma_index indices address_base address_rule
+unfolding in_parens in_squares in_braces any_part any_run int_type named_type array_type braced_types struct_type packed_type other_type type_rule array_rule comma_type more_types types_rule ptr_word integer_value name_value word_value flag flags address_parens address_value value_rule squared_constants braced_constants array_constant struct_constant packed_constant constant_rule typed_constant comma_constant more_elements elements_rule comma_index indices address_base address_rule alignment word_attribute align_attribute convention_attribute text_attribute attribute attributes maybe_local parameter_rule comma_parameter more_parameters parameters_rule
 shallow (array_inside c) = refl
 shallow (types_inside c) = refl
 shallow elements_inside = refl
 shallow address_inside = refl
+shallow parameters_inside = refl
 shallow any_inside = refl
 
 completed : (n : Name) → goes_on (production n) ≡ true
-unfolding in_parens in_squares in_braces any_part any_run int_type named_type array_type braced_types struct_type packed_type other_type type_rule array_rule comma_type more_types types_rule ptr_word integer_value name_value word_value flag flags address_parens address_value value_rule squared_constants braced_constants array_constant struct_constant packed_constant constant_rule typed_constant comma_constant more_elements elements_rule comma_index indices address_base address_rule
+unfolding in_parens in_squares in_braces any_part any_run int_type named_type array_type braced_types struct_type packed_type other_type type_rule array_rule comma_type more_types types_rule ptr_word integer_value name_value word_value flag flags address_parens address_value value_rule squared_constants braced_constants array_constant struct_constant packed_constant constant_rule typed_constant comma_constant more_elements elements_rule comma_index indices address_base address_rule alignment word_attribute align_attribute convention_attribute text_attribute attribute attributes maybe_local parameter_rule comma_parameter more_parameters parameters_rule
 completed (array_inside at.Plain) = refl
 completed (array_inside at.Global) = refl
 completed (array_inside at.GlobalTail) = refl
 completed (array_inside at.Declare) = refl
+completed (array_inside at.Parameter) = refl
 completed (array_inside at.DeclareTail) = refl
 completed (types_inside at.Plain) = refl
 completed (types_inside at.Global) = refl
 completed (types_inside at.GlobalTail) = refl
 completed (types_inside at.Declare) = refl
+completed (types_inside at.Parameter) = refl
 completed (types_inside at.DeclareTail) = refl
 completed elements_inside = refl
 completed address_inside = refl
+completed parameters_inside = refl
 completed any_inside = refl
 
 -- one token ahead decides each choice of the shared grammar, and what was read before a fault can be completed
@@ -62,8 +71,9 @@ type_clear at.Plain = refl
 type_clear at.Global = refl
 type_clear at.GlobalTail = refl
 type_clear at.Declare = refl
+type_clear at.Parameter = refl
 type_clear at.DeclareTail = refl
 
-pub constant_clear : is_clear shared production (base number) constant_rule ≡ true
+pub constant_clear : is_clear shared production (base constant) constant_rule ≡ true
 unfolding is_same in_parens in_squares in_braces any_part any_run int_type named_type array_type braced_types struct_type packed_type other_type type_rule array_rule comma_type more_types types_rule ptr_word integer_value name_value word_value flag flags address_parens address_value value_rule squared_constants braced_constants array_constant struct_constant packed_constant constant_rule typed_constant comma_constant more_elements elements_rule comma_index indices address_base address_rule
 constant_clear = refl

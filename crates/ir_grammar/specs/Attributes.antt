@@ -6,7 +6,7 @@ use Rattle.ir_grammar.specs.declared.context.Context.TheVariants as at
 use Rattle.ir_grammar.specs.declared.kind.Kind.TheVariants as k
 use Rattle.ir_grammar.specs.Rules.{nothing, one, refused, ◌⨾◌, ◌∣◌, optional, many, the, gone}
 use Rattle.ir_grammar.specs.Names.{Production}
-use Rattle.ir_grammar.specs.Words.{integers, attribute_words, refused_attributes}
+use Rattle.ir_grammar.specs.Words.{integers, texts, attribute_words, refused_attributes}
 use Rattle.ir_grammar.specs.Skipped.{in_parens}
 
 -- a power of two; on a global at most 16, and above that Unsupported
@@ -29,7 +29,7 @@ convention_attribute = gone (the k.CallingConvention ⨾ (in_parens ∣ gone (on
 
 -- string | string = string
 unfoldable pub text_attribute : Production nothing
-text_attribute = gone (the k.Text ⨾ optional (the k.Equals ⨾ the k.Text))
+text_attribute = gone (one texts ⨾ optional (the k.Equals ⨾ one texts))
 
 -- word | word ( any ) | (align | cc) integer | string | string = string | attrnum
 unfoldable pub attribute : Context → Production nothing

@@ -5,22 +5,22 @@ use Rattle.ir_grammar.specs.declared.context.Context.TheVariants as at
 use Rattle.ir_grammar.specs.declared.kind.Kind.TheVariants as k
 use Rattle.ir_grammar.specs.declared.spelled.SpelledConstant.TheVariants as constants
 use Rattle.ir_grammar.specs.Rules.{nothing, base, pair, list, one, refused, ◌⨾◌, ◌∣◌, optional, many, between, act, the, just, gone, ◌▷◌, ◌◁◌, items_of}
-use Rattle.ir_grammar.specs.Names.{Production, number, element, index, elements_inside, address_inside}
-use Rattle.ir_grammar.specs.Words.{integers, locals, refused_values}
+use Rattle.ir_grammar.specs.Names.{Production, number, constant, element, index, elements_inside, address_inside}
+use Rattle.ir_grammar.specs.Words.{integers, locals, globals, refused_values}
 use Rattle.ir_grammar.specs.Spelled.{add_constant, add_array, add_struct, add_address, integer_of}
 use Rattle.ir_grammar.specs.Skipped.{in_parens}
 use Rattle.ir_grammar.specs.Types.{type_rule, ptr_word}
 
 -- integer
-unfoldable pub integer_value : Production (base number)
+unfoldable pub integer_value : Production (base constant)
 integer_value = act (λ t. add_constant (constants.Integer (integer_of t))) (one integers)
 
 -- local | global
-unfoldable pub name_value : Production (base number)
-name_value = act (λ t. add_constant (constants.Local t.token)) (one locals) ∣ act (λ t. add_constant (constants.Global t.token)) (the k.Global)
+unfoldable pub name_value : Production (base constant)
+name_value = act (λ t. add_constant (constants.Local t.token)) (one locals) ∣ act (λ t. add_constant (constants.Global t.token)) (one globals)
 
 -- true | false | null | undef | poison | zeroinitializer
-unfoldable pub word_value : Production (base number)
+unfoldable pub word_value : Production (base constant)
 word_value = act (λ t. add_constant (constants.Bool true)) (the k.True) ∣ act (λ t. add_constant (constants.Bool false)) (the k.False)
     ∣ act (λ t. add_constant constants.Null) (the k.Null) ∣ act (λ t. add_constant constants.Zero) (the k.ZeroWord)
 
@@ -33,15 +33,15 @@ unfoldable pub flags : Production nothing
 flags = gone (many flag)
 
 -- ( type , ptr const (, type integer)* )
-unfoldable pub address_parens : Production (base number)
+unfoldable pub address_parens : Production (base constant)
 address_parens = between k.OpenParen address_inside k.CloseParen
 
 -- getelementptr flag* ( type , ptr const (, type integer)* )
-unfoldable pub address_value : Production (base number)
+unfoldable pub address_value : Production (base constant)
 address_value = the k.GetElementPtr ▷ (flags ▷ address_parens)
 
 -- local | global | integer | true | false | null | undef | poison | zeroinitializer | getelementptr ..
-unfoldable pub value_rule : Production (base number)
+unfoldable pub value_rule : Production (base constant)
 value_rule = integer_value ∣ name_value ∣ word_value ∣ address_value ∣ refused refused_values
 
 -- [ elems ]
@@ -53,19 +53,19 @@ unfoldable pub braced_constants : Production (list (base element))
 braced_constants = between k.OpenBrace elements_inside k.CloseBrace
 
 -- [ elems ], an array
-unfoldable pub array_constant : Production (base number)
+unfoldable pub array_constant : Production (base constant)
 array_constant = act (λ found. add_array found) squared_constants
 
 -- { elems }, a struct
-unfoldable pub struct_constant : Production (base number)
+unfoldable pub struct_constant : Production (base constant)
 struct_constant = act (λ found. add_struct false found) braced_constants
 
 -- < { elems } >, a packed struct
-unfoldable pub packed_constant : Production (base number)
+unfoldable pub packed_constant : Production (base constant)
 packed_constant = act (λ found. add_struct true found) (the k.Less ▷ (braced_constants ◁ the k.Greater))
 
 -- value | bytes | [ elems ] | { elems } | < { elems } >
-unfoldable pub constant_rule : Production (base number)
+unfoldable pub constant_rule : Production (base constant)
 constant_rule = act (λ t. add_constant (constants.Bytes t.token)) (the k.Bytes) ∣ array_constant ∣ struct_constant ∣ packed_constant ∣ value_rule
 
 -- type const
@@ -93,9 +93,9 @@ unfoldable pub indices : Production (list (base index))
 indices = many comma_index
 
 -- type , ptr const
-unfoldable pub address_base : Production (pair (base number) (base number))
+unfoldable pub address_base : Production (pair (base number) (base constant))
 address_base = type_rule at.Plain ⨾ (the k.Comma ▷ (ptr_word ▷ constant_rule))
 
 -- type , ptr const (, type integer)*
-unfoldable pub address_rule : Production (base number)
+unfoldable pub address_rule : Production (base constant)
 address_rule = act (λ v. add_address ((v.0).0) ((v.0).1) v.1) (address_base ⨾ indices)

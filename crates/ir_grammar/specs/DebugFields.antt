@@ -6,7 +6,7 @@ use Rattle.ir_core.specs.declared.token.Token.{Token}
 use Rattle.ir_core.specs.declared.token.TokenKind.{TokenKind}
 use Rattle.ir_core.specs.declared.token.TokenKind.TheVariants.{Label, Mark}
 use Rattle.ir_core.specs.Tokens.{bytes_of}
-use Rattle.ir_grammar.specs.DebugText.{label_name}
+use Rattle.ir_text.specs.TokenText.{label_name}
 
 -- a token's kind and its bytes
 pub record Lexeme : Type 0 where

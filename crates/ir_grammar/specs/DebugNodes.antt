@@ -11,7 +11,7 @@ use Rattle.ir_core.specs.declared.token.TokenKind.TheVariants.{Word, Integer, Me
 use Rattle.ir_core.specs.declared.meta.Node.{Node}
 use Rattle.ir_core.specs.declared.meta.NodeKind.{NodeKind}
 use Rattle.ir_core.specs.declared.meta.NodeKind.TheVariants.{Location, Subprogram, File, Other}
-use Rattle.ir_grammar.specs.DebugText.{number_behind_bang, line_or_column, string_bytes_of}
+use Rattle.ir_text.specs.TokenText.{number_behind_bang, line_or_column, string_bytes_of}
 use Rattle.ir_grammar.specs.DebugFields.{Lexeme, lexemes, Field, is_the, depth_behind, inside, fields, first_field, only_token}
 
 -- it is a word

@@ -7,10 +7,11 @@ use Rattle.ir_grammar.specs.declared.reader.Reader.{Reader}
 use Rattle.ir_grammar.specs.Rules.{Sort, Value}
 use Rattle.ir_grammar.specs.Reading.{Outcome, ◌>>=◌, Reading, read_in, inside, too_deep}
 use Rattle.ir_grammar.specs.Spelled.{Store, store_of}
-use Rattle.ir_grammar.specs.Names.{Base, Name, array_inside, types_inside, elements_inside, address_inside, any_inside, sort_of, shared, Production}
+use Rattle.ir_grammar.specs.Names.{Base, Name, array_inside, types_inside, elements_inside, address_inside, parameters_inside, any_inside, sort_of, shared, Production}
 use Rattle.ir_grammar.specs.Skipped.{any_run}
 use Rattle.ir_grammar.specs.Types.{array_rule, types_rule}
 use Rattle.ir_grammar.specs.Constants.{elements_rule, address_rule}
+use Rattle.ir_grammar.specs.Parameters.{parameters_rule}
 
 -- the rule of each name
 abbrev pub production : (n : Name) → Production (sort_of n)
@@ -18,6 +19,7 @@ production (array_inside c) = array_rule c
 production (types_inside c) = types_rule c
 production elements_inside = elements_rule
 production address_inside = address_rule
+production parameters_inside = parameters_rule
 production any_inside = any_run
 
 -- how many brackets may stand around one another. This project's choice

@@ -6,12 +6,15 @@ use Rattle.std.specs.Str.{bytes_eq}
 use Rattle.std.specs.Str.Parse.{digits_value}
 use Rattle.std.specs.Char.{is_ascii_digit}
 use Rattle.std.specs.Int.{is_power_of_two}
+use Rattle.ir_core.specs.declared.refusals.Place.{Place}
 use Rattle.ir_core.specs.declared.token.Token.{Token}
 use Rattle.ir_core.specs.declared.token.TokenKind.{TokenKind}
 use Rattle.ir_core.specs.declared.token.TokenKind.TheVariants as tokens
 use Rattle.ir_core.specs.contracts.token.TokenKind.{the_type}
 use denote.Enum.Bare.{sameb}
 use Rattle.ir_core.specs.Tokens.{bytes_of}
+use Rattle.ir_text.specs.Names.{is_used_list}
+use Rattle.ir_text.specs.DataLayout.{is_layout_taken}
 use Rattle.ir_grammar.specs.declared.kind.Kind.{Kind}
 use Rattle.ir_grammar.specs.declared.kind.Kind.TheVariants as k
 use Rattle.ir_grammar.specs.declared.terminal.Terminal.{Terminal}
@@ -187,20 +190,36 @@ unfoldable pub mark_kind : List ℕ → Bool → Kind
 mark_kind text integer =
     unwrap_or (kind_in mark_table text) (if bytes_eq text (codes "<") then (if integer then k.Vector else k.Less) else k.OtherMark)
 
+-- a local, and whether `=` follows it
+abbrev pub local_kind : Bool → Kind
+local_kind equals = if equals then k.LocalDefinition else k.Local
+
+-- a metadata name, and whether `=` follows it
+abbrev pub meta_name_kind : Bool → Kind
+meta_name_kind equals = if equals then k.MetaDefinition else k.MetaName
+
+-- a global; those that list what has to be kept are read in their own way
+abbrev pub global_kind : List ℕ → Kind
+global_kind text = if is_used_list text then k.UsedGlobal else k.Global
+
+-- a string, by the data layout that it would write
+abbrev pub text_kind : List ℕ → Kind
+text_kind text = if is_layout_taken text then k.Text else k.OtherLayout
+
 -- the kind of a token of this text; whether `=` and whether an integer follows it
 abbrev pub token_kind : TokenKind → List ℕ → Bool → Bool → Kind
 token_kind tokens.Word text equals integer = word_kind text
 token_kind tokens.Label text equals integer = k.Label
 token_kind tokens.Integer text equals integer = integer_kind text
 token_kind tokens.Float text equals integer = k.Float
-token_kind tokens.Local text equals integer = if equals then k.LocalDefinition else k.Local
-token_kind tokens.Global text equals integer = k.Global
-token_kind tokens.MetaName text equals integer = if equals then k.MetaDefinition else k.MetaName
+token_kind tokens.Local text equals integer = local_kind equals
+token_kind tokens.Global text equals integer = global_kind text
+token_kind tokens.MetaName text equals integer = meta_name_kind equals
 token_kind tokens.MetaNumber text equals integer = k.MetaNumber
 token_kind tokens.Bang text equals integer = k.Bang
 token_kind tokens.AttrNumber text equals integer = k.AttrNumber
 token_kind tokens.DebugRecord text equals integer = k.DebugRecord
-token_kind tokens.Text text equals integer = k.Text
+token_kind tokens.Text text equals integer = text_kind text
 token_kind tokens.Bytes text equals integer = k.Bytes
 token_kind tokens.Mark text equals integer = mark_kind text integer
 
@@ -218,7 +237,15 @@ terminal_of source t behind = record {
   token = t;
 }
 
+-- the end of the text, with its place
+abbrev pub end_of_text : Place → Terminal
+end_of_text place = record { kind = k.End; number = 0; token = record { kind = tokens.Mark; from = 0; to = 0; place = place } }
+
 -- the tokens of the source
 abbrev pub terminals_of : List ℕ → List Token → List Terminal
 terminals_of source [] = []
 terminals_of source (t ∷ ts) = terminal_of source t ts ∷ terminals_of source ts
+
+-- the tokens of the source, and behind them the end of the text, which is here
+abbrev pub text_of : List ℕ → List Token → Place → List Terminal
+text_of source tokens place = terminals_of source tokens ++ end_of_text place ∷ []

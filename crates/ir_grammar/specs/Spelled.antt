@@ -1,6 +1,7 @@
--- What reading builds: the types and constants that a text spells, in order of their ends, so that a part has a lower
+-- What reading builds: the types, constants and items that a text spells, in order of their ends, so that a part has a lower
 -- number than what it is part of. Names stay tokens: what they mean is decided later.
 use Rattle.std.specs.Prelude.{ℕ, List, [], ◌∷◌, ◌++◌, length, Bool, Ok}
+use Rattle.ir_core.specs.declared.token.Token.{Token}
 use Rattle.ir_grammar.specs.declared.kind.Kind.TheVariants.{Negative}
 use Rattle.ir_grammar.specs.declared.terminal.Terminal.{Terminal}
 use Rattle.ir_grammar.specs.declared.spelled.SpelledInteger.{SpelledInteger}
@@ -11,6 +12,8 @@ use Rattle.ir_grammar.specs.declared.spelled.SpelledConstant.TheVariants as cons
 use Rattle.ir_grammar.specs.declared.spelled.TypedConstant.{TypedConstant}
 use Rattle.ir_grammar.specs.declared.spelled.TypedIndex.{TypedIndex}
 use Rattle.ir_grammar.specs.declared.spelled.SpelledParameter.{SpelledParameter}
+use Rattle.ir_grammar.specs.declared.spelled.SpelledItem.{SpelledItem}
+use Rattle.ir_grammar.specs.declared.spelled.SpelledItem.TheVariants as items
 use Rattle.ir_grammar.specs.declared.reader.Spellings.{Spellings}
 use Rattle.ir_grammar.specs.Kinds.{is_same}
 use Rattle.ir_grammar.specs.Reading.{Outcome}
@@ -27,6 +30,7 @@ pub record Store : Type 0 where
   pub elements : List TypedConstant
   pub indices : List TypedIndex
   pub parameters : List SpelledParameter
+  pub items : List SpelledItem
 
 -- the type is added, and its value is its number
 abbrev pub add_type : SpelledType → Store → ℕ × Store
@@ -56,9 +60,22 @@ abbrev pub add_address : ℕ → ℕ → List TypedIndex → Store → ℕ × St
 add_address ty base found store =
     add_constant (constants.Address ty base (length store.indices) (length found)) (record store { indices = store.indices ++ found })
 
+-- the item is added
+abbrev pub add_item : SpelledItem → Store → Unit {0} × Store
+add_item item store = (tt, record store { items = store.items ++ item ∷ [] })
+
+-- the declare of a function with these parameters, which are added in a row
+abbrev pub add_declare : Token → ℕ → List SpelledParameter → Store → Unit {0} × Store
+add_declare name result found store =
+    add_item (items.Declare name result (length store.parameters) (length found)) (record store { parameters = store.parameters ++ found })
+
 -- the lists of the reader
 abbrev pub store_of : Spellings → Store
-store_of s = record { types = s.types.items; fields = s.fields.items; constants = s.constants.items; elements = s.elements.items; indices = s.indices.items; parameters = s.parameters.items }
+store_of s = record { types = s.types.items; fields = s.fields.items; constants = s.constants.items; elements = s.elements.items; indices = s.indices.items; parameters = s.parameters.items; items = s.items.items }
+
+-- a value and a store, with the tokens that are left
+abbrev pub with_rest : {A : Type 0} → A × Store → List Terminal → Outcome Store A
+with_rest x rest = Ok (x.0, rest, x.1)
 
 -- a number and a store, with the tokens that are left
 abbrev pub added : ℕ × Store → List Terminal → Outcome Store ℕ

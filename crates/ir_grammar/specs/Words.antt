@@ -14,6 +14,18 @@ integers = k.Count ∷ k.SmallPower ∷ k.Power ∷ k.Negative ∷ k.GreatPower 
 abbrev pub counts : List Kind
 counts = k.Count ∷ k.SmallPower ∷ k.Power ∷ []
 
+-- a string
+abbrev pub texts : List Kind
+texts = k.Text ∷ k.OtherLayout ∷ []
+
+-- a global
+abbrev pub globals : List Kind
+globals = k.Global ∷ k.UsedGlobal ∷ []
+
+-- a metadata name, whatever follows it
+abbrev pub meta_names : List Kind
+meta_names = k.MetaName ∷ k.MetaDefinition ∷ []
+
 -- a local, whatever follows it
 abbrev pub locals : List Kind
 locals = k.Local ∷ k.LocalDefinition ∷ []
@@ -45,19 +57,22 @@ attribute_words at.Plain = k.DollarWord ∷ k.Section ∷ common_attributes
 attribute_words at.Global = k.DollarWord ∷ k.Section ∷ common_attributes
 attribute_words at.GlobalTail = k.DollarWord ∷ common_attributes
 attribute_words at.Declare = k.External ∷ k.DollarWord ∷ k.Section ∷ common_attributes
+attribute_words at.Parameter = k.External ∷ k.DollarWord ∷ k.Section ∷ common_attributes
 attribute_words at.DeclareTail = k.External ∷ k.Section ∷ common_attributes
 
--- words that are Unsupported where an attribute may stand. In a declare a type `metadata` may stand behind attributes;
+-- words that are Unsupported where an attribute may stand. In a declare a type `metadata` may stand behind attributes, but
+-- not behind those of a parameter;
 -- behind a declare's parameters the next item may begin, with `target`, and not with a `$` word
 abbrev pub refused_attributes : Context → List Kind
 refused_attributes at.Declare = k.Target ∷ refused_words
+refused_attributes at.Parameter = k.MetadataWord ∷ k.Target ∷ refused_words
 refused_attributes at.DeclareTail = k.DollarWord ∷ k.MetadataWord ∷ refused_words
 refused_attributes _ = k.External ∷ k.MetadataWord ∷ k.Target ∷ refused_words
 
--- every kind but brackets: what a skipped run holds
+-- every kind but brackets and the end of the text: what a skipped run holds
 abbrev pub all_but_brackets : List Kind
 all_but_brackets = k.Equals ∷ k.Comma ∷ k.Less ∷ k.Greater ∷ k.Vector ∷ k.Dots ∷ k.OtherMark ∷ k.Label ∷ k.Local ∷ k.LocalDefinition ∷ k.Global
-    ∷ k.MetaName ∷ k.MetaDefinition ∷ k.MetaNumber ∷ k.Bang ∷ k.AttrNumber ∷ k.DebugRecord ∷ k.Text ∷ k.Bytes ∷ k.Float ∷ k.Negative
+    ∷ k.UsedGlobal ∷ k.MetaName ∷ k.MetaDefinition ∷ k.MetaNumber ∷ k.Bang ∷ k.AttrNumber ∷ k.DebugRecord ∷ k.Text ∷ k.OtherLayout ∷ k.Bytes ∷ k.Float ∷ k.Negative
     ∷ k.SmallPower ∷ k.Power ∷ k.Count ∷ k.GreatPower ∷ k.Great ∷ k.BitType ∷ k.IntType ∷ k.EmptyIntType ∷ k.WideIntType ∷ k.Ptr ∷ k.Void
     ∷ k.LabelWord ∷ k.MetadataWord ∷ k.Target ∷ k.OtherType ∷ k.True ∷ k.False ∷ k.Null ∷ k.ZeroWord ∷ k.GetElementPtr ∷ k.SourceFilename
     ∷ k.Define ∷ k.Declare ∷ k.AttributesWord ∷ k.GlobalWord ∷ k.ConstantWord ∷ k.DataLayout ∷ k.Triple ∷ k.TypeWord ∷ k.OpaqueWord

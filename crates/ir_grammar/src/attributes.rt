@@ -1,11 +1,11 @@
 ghost use Rattle.std.specs.Prelude.{◌≡◌};
-ghost use Rattle.ir_grammar.specs.Reading.{starts, first};
-ghost use Rattle.ir_grammar.specs.Words.{attribute_words, refused_attributes};
-ghost use Rattle.ir_grammar.specs.Grammar.{Reads, read};
+ghost use Rattle.ir_grammar.specs.Reading.{starts, take, first};
+ghost use Rattle.ir_grammar.specs.Words.{texts, attribute_words, refused_attributes};
+ghost use Rattle.ir_grammar.specs.Grammar.{Gives, Reads, read};
 ghost use Rattle.ir_grammar.specs.Spelled.{store_of};
 ghost use Rattle.ir_grammar.specs.Attributes.{alignment, word_attribute, align_attribute, convention_attribute, text_attribute, attribute, attributes};
 
-use crate::{Context, Failure, Kind, Reader};
+use crate::{Context, Failure, Kind, Reader, Terminal};
 
 /// Words that are attributes wherever one may stand, before them `$` words and `section`.
 const WORDS: [Kind; 20] = [
@@ -123,6 +123,16 @@ const REFUSED_IN_DECLARE: [Kind; 5] = [
     Kind::WideIntType,
 ];
 
+/// Those behind the type of a declare's parameter.
+const REFUSED_IN_PARAMETER: [Kind; 6] = [
+    Kind::MetadataWord,
+    Kind::Target,
+    Kind::OtherWord,
+    Kind::OtherType,
+    Kind::LabelWord,
+    Kind::WideIntType,
+];
+
 /// Those behind a declare's parameters.
 const REFUSED_IN_DECLARE_TAIL: [Kind; 6] = [
     Kind::DollarWord,
@@ -142,6 +152,7 @@ fn attribute_words(context: Context) -> &'static [Kind]
         Context::Global => &WORDS,
         Context::GlobalTail => &GLOBAL_TAIL_WORDS,
         Context::Declare => &DECLARE_WORDS,
+        Context::Parameter => &DECLARE_WORDS,
         Context::DeclareTail => &DECLARE_TAIL_WORDS,
     }
 }
@@ -155,6 +166,7 @@ fn refused_attributes(context: Context) -> &'static [Kind]
         Context::Global => &REFUSED,
         Context::GlobalTail => &REFUSED,
         Context::Declare => &REFUSED_IN_DECLARE,
+        Context::Parameter => &REFUSED_IN_PARAMETER,
         Context::DeclareTail => &REFUSED_IN_DECLARE_TAIL,
     }
 }
@@ -221,15 +233,22 @@ impl<'a> Reader<'a> {
         Ok(())
     }
 
+    /// A string.
+    pub fn text(&mut self) -> Result<Terminal, Failure>
+        ensures { Gives (λ t. (t, self.new.rest.now, store_of self.new.found)) result (take texts self.old.rest.now (store_of self.old.found)) }
+    {
+        self.take_among(&[Kind::Text, Kind::OtherLayout])
+    }
+
     /// string | string = string
     #[tactic(auto, unfolding(crate::specs::Attributes::text_attribute))]
     fn text_attribute(&mut self, levels: u32) -> Result<(), Failure>
         ensures { Reads (λ x. x) result self.old self.new levels text_attribute }
     {
-        self.take(Kind::Text)?;
+        self.text()?;
         if self.next_is(Kind::Equals) {
             self.take(Kind::Equals)?;
-            self.take(Kind::Text)?;
+            self.text()?;
         }
         Ok(())
     }
@@ -248,7 +267,7 @@ impl<'a> Reader<'a> {
         if self.next_is(Kind::CallingConvention) {
             return self.convention_attribute(levels);
         }
-        if self.next_is(Kind::Text) {
+        if self.next_among(&[Kind::Text, Kind::OtherLayout]) {
             return self.text_attribute(levels);
         }
         if self.next_is(Kind::AttrNumber) {
@@ -271,6 +290,7 @@ impl<'a> Reader<'a> {
                         Kind::Align,
                         Kind::CallingConvention,
                         Kind::Text,
+                        Kind::OtherLayout,
                         Kind::AttrNumber,
                     ])
                     || next.kind.is_among(refused_attributes(context))

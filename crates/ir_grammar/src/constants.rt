@@ -1,6 +1,6 @@
 ghost use Rattle.std.specs.Prelude.{◌≡◌, [], ◌∷◌};
 ghost use Rattle.ir_grammar.specs.Reading.{starts, first};
-ghost use Rattle.ir_grammar.specs.Words.{integers, refused_values};
+ghost use Rattle.ir_grammar.specs.Words.{integers, globals, refused_values};
 ghost use Rattle.ir_grammar.specs.Kinds.{is_same};
 ghost use Rattle.ir_grammar.specs.Grammar.{Gives, Reads, read, with_front};
 ghost use Rattle.ir_grammar.specs.Spelled.{store_of, integer_of};
@@ -70,7 +70,7 @@ impl<'a> Reader<'a> {
             let token = self.take_among(&[Kind::Local, Kind::LocalDefinition])?;
             return self.add_constant(SpelledConstant::Local(token.token));
         }
-        let token = self.take(Kind::Global)?;
+        let token = self.take_among(&[Kind::Global, Kind::UsedGlobal])?;
         self.add_constant(SpelledConstant::Global(token.token))
     }
 
@@ -154,7 +154,12 @@ impl<'a> Reader<'a> {
         if self.next_among(&INTEGERS) {
             return self.integer_value(levels);
         }
-        if self.next_among(&[Kind::Local, Kind::LocalDefinition, Kind::Global]) {
+        if self.next_among(&[
+            Kind::Local,
+            Kind::LocalDefinition,
+            Kind::Global,
+            Kind::UsedGlobal,
+        ]) {
             return self.name_value(levels);
         }
         if self.next_among(&[Kind::True, Kind::False, Kind::Null, Kind::ZeroWord]) {

@@ -9,6 +9,8 @@ pub enum Context {
     GlobalTail,
     /// In a declare: `metadata` is a type, `external` and `extern_weak` are attributes.
     Declare,
+    /// Behind the type of a declare's parameter, where no type may stand.
+    Parameter,
     /// Behind a declare's parameters, where the next item may begin: `$` words are none.
     DeclareTail,
 }

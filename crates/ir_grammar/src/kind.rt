@@ -5,6 +5,8 @@ ghost use Rattle.ir_grammar.specs.Kinds.{is_same, is_among};
 /// `specs/KindOf.antt` says which kind a token has.
 #[derive(Clone, Copy, Debug, PartialEq, Eq)]
 pub enum Kind {
+    /// The end of the text, behind its last token.
+    End,
     // Marks.
     Equals,
     Comma,
@@ -28,6 +30,8 @@ pub enum Kind {
     /// A local before `=`.
     LocalDefinition,
     Global,
+    /// `@llvm.used` or `@llvm.compiler.used`.
+    UsedGlobal,
     MetaName,
     /// A metadata name before `=`.
     MetaDefinition,
@@ -36,6 +40,8 @@ pub enum Kind {
     AttrNumber,
     DebugRecord,
     Text,
+    /// A string that, as a datalayout, this program doesn't take.
+    OtherLayout,
     Bytes,
     Float,
     /// An integer below 0.

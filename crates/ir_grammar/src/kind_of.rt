@@ -1,11 +1,13 @@
-ghost use Rattle.std.specs.Prelude.{◌≡◌, drop, map, IfOk};
+ghost use Rattle.std.specs.Prelude.{◌≡◌, drop, map, All, IfOk};
 ghost use Rattle.std.specs.Char.{digit_value, is_ascii_digit};
 ghost use Rattle.std.specs.List.{list_all};
-ghost use Rattle.ir_grammar.specs.KindOf.{kind_in, type_words, item_words, body_words, other_words, mark_table, is_int_type, int_kind, number_of, other_word, word_kind, count_kind, digits_of, integer_kind, mark_kind, is_token, integer_follows, equals_follows, token_kind, token_number, terminal_of, terminals_of};
+ghost use Rattle.ir_grammar.specs.SoundStore.{IsInRange};
+ghost use Rattle.ir_grammar.specs.KindOf.{kind_in, type_words, item_words, body_words, other_words, mark_table, is_int_type, int_kind, number_of, other_word, word_kind, count_kind, digits_of, integer_kind, mark_kind, is_token, integer_follows, equals_follows, local_kind, meta_name_kind, global_kind, text_kind, token_kind, token_number, terminal_of, terminals_of, end_of_text, text_of};
 
 use crate::{Kind, Terminal};
 use hw_base::OutOfMemory;
-use ir_core::{Token, TokenKind, Tokens};
+use ir_core::{Place, Token, TokenKind, Tokens};
+use ir_text::{is_layout_taken, is_used_list};
 use std::alloc::Global;
 
 /// Words of types and values.
@@ -407,36 +409,70 @@ fn mark_kind(text: &[u8], integer: bool) -> Kind
     }
 }
 
-fn token_kind(kind: TokenKind, text: &[u8], equals: bool, integer: bool) -> Kind
-    ensures { result ≡ token_kind kind text.now equals integer }
+fn local_kind(equals: bool) -> Kind
+    ensures { result ≡ local_kind equals }
+{
+    if equals {
+        Kind::LocalDefinition
+    } else {
+        Kind::Local
+    }
+}
+
+fn meta_name_kind(equals: bool) -> Kind
+    ensures { result ≡ meta_name_kind equals }
+{
+    if equals {
+        Kind::MetaDefinition
+    } else {
+        Kind::MetaName
+    }
+}
+
+fn global_kind(text: &[u8]) -> Kind
+    ensures { result ≡ global_kind text.now }
+{
+    if is_used_list(text) {
+        Kind::UsedGlobal
+    } else {
+        Kind::Global
+    }
+}
+
+fn text_kind(alloc: Global, text: &[u8]) -> Result<Kind, OutOfMemory>
+    ensures { IfOk result (λ kind. kind ≡ text_kind text.now) }
+{
+    if is_layout_taken(alloc, text)? {
+        Ok(Kind::Text)
+    } else {
+        Ok(Kind::OtherLayout)
+    }
+}
+
+fn token_kind(
+    alloc: Global,
+    kind: TokenKind,
+    text: &[u8],
+    equals: bool,
+    integer: bool,
+) -> Result<Kind, OutOfMemory>
+    ensures { IfOk result (λ found. found ≡ token_kind kind text.now equals integer) }
 {
     match kind {
-        TokenKind::Word => word_kind(text),
-        TokenKind::Label => Kind::Label,
-        TokenKind::Integer => integer_kind(text),
-        TokenKind::Float => Kind::Float,
-        TokenKind::Local => {
-            if equals {
-                Kind::LocalDefinition
-            } else {
-                Kind::Local
-            }
-        }
-        TokenKind::Global => Kind::Global,
-        TokenKind::MetaName => {
-            if equals {
-                Kind::MetaDefinition
-            } else {
-                Kind::MetaName
-            }
-        }
-        TokenKind::MetaNumber => Kind::MetaNumber,
-        TokenKind::Bang => Kind::Bang,
-        TokenKind::AttrNumber => Kind::AttrNumber,
-        TokenKind::DebugRecord => Kind::DebugRecord,
-        TokenKind::Text => Kind::Text,
-        TokenKind::Bytes => Kind::Bytes,
-        TokenKind::Mark => mark_kind(text, integer),
+        TokenKind::Word => Ok(word_kind(text)),
+        TokenKind::Label => Ok(Kind::Label),
+        TokenKind::Integer => Ok(integer_kind(text)),
+        TokenKind::Float => Ok(Kind::Float),
+        TokenKind::Local => Ok(local_kind(equals)),
+        TokenKind::Global => Ok(global_kind(text)),
+        TokenKind::MetaName => Ok(meta_name_kind(equals)),
+        TokenKind::MetaNumber => Ok(Kind::MetaNumber),
+        TokenKind::Bang => Ok(Kind::Bang),
+        TokenKind::AttrNumber => Ok(Kind::AttrNumber),
+        TokenKind::DebugRecord => Ok(Kind::DebugRecord),
+        TokenKind::Text => text_kind(alloc, text),
+        TokenKind::Bytes => Ok(Kind::Bytes),
+        TokenKind::Mark => Ok(mark_kind(text, integer)),
     }
 }
 
@@ -496,28 +532,64 @@ fn equals_follows(tokens: &Tokens, behind: &[Token]) -> bool
 }
 
 /// A token as the grammar sees it, before these.
-fn terminal_of(tokens: &Tokens, token: &Token, behind: &[Token]) -> Terminal
-    ensures { result ≡ terminal_of tokens.now.source token.now behind.now }
+fn terminal_of(
+    alloc: Global,
+    tokens: &Tokens,
+    token: &Token,
+    behind: &[Token],
+) -> Result<Terminal, OutOfMemory>
+    ensures { IfOk result (λ found. found ≡ terminal_of tokens.now.source token.now behind.now) }
 {
     let text = tokens.text_of(token);
     let equals = equals_follows(tokens, behind);
     let integer = integer_follows(behind);
-    Terminal {
-        kind: token_kind(token.kind, text, equals, integer),
+    Ok(Terminal {
+        kind: token_kind(alloc, token.kind, text, equals, integer)?,
         number: token_number(token.kind, text),
         token: *token,
+    })
+}
+
+/// The end of the text, with its place.
+fn end_of_text(place: Place) -> Terminal
+    ensures { result ≡ end_of_text place }
+{
+    Terminal {
+        kind: Kind::End,
+        number: 0,
+        token: Token {
+            kind: TokenKind::Mark,
+            from: 0,
+            to: 0,
+            place,
+        },
     }
 }
 
-/// The tokens as the grammar sees them.
-pub fn terminals(alloc: Global, tokens: &Tokens) -> Result<Vec<Terminal>, OutOfMemory>
-    ensures { IfOk result (λ found. found.items ≡ terminals_of tokens.now.source tokens.now.tokens) }
+/// The tokens as the grammar sees them, and behind them the end of the text.
+fn text_of(alloc: Global, tokens: &Tokens, end: Place) -> Result<Vec<Terminal>, OutOfMemory>
+    ensures { IfOk result (λ found. found.items ≡ text_of tokens.now.source tokens.now.tokens end) }
 {
     let mut found = Vec::new(alloc);
     let mut rest = tokens.as_slice();
     while let [token, behind @ ..] = rest {
-        found.push(terminal_of(tokens, token, behind))?;
+        found.push(terminal_of(alloc, tokens, token, behind)?)?;
         rest = behind;
     }
+    found.push(end_of_text(end))?;
+    Ok(found)
+}
+
+/// The tokens as the grammar sees them, and behind them the end of the text, which stands at this place. The only error is
+/// want of memory.
+pub fn terminals(
+    alloc: Global,
+    tokens: &Tokens,
+    end: Place,
+) -> Result<Vec<Terminal>, OutOfMemory>
+    ensures text { IfOk result (λ found. found.items ≡ text_of tokens.now.source tokens.now.tokens end) }
+    ensures ranges { IfOk result (λ found. All IsInRange found.items) }
+{
+    let found = text_of(alloc, tokens, end)?;
     Ok(found)
 }

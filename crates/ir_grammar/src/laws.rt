@@ -1,7 +1,7 @@
 ghost use Rattle.std.specs.Prelude.{◌≡◌, ℕ, List, ◌∷◌, ◌++◌, true};
 ghost use Rattle.ir_grammar.specs.declared.context.Context.{Context};
 ghost use Rattle.ir_grammar.specs.Rules.{base};
-ghost use Rattle.ir_grammar.specs.Names.{shared, number};
+ghost use Rattle.ir_grammar.specs.Names.{shared, number, constant};
 ghost use Rattle.ir_grammar.specs.Grammar.{production};
 ghost use Rattle.ir_grammar.specs.Conditions.{is_clear, goes_on, has, IsWellFormed};
 ghost use Rattle.ir_grammar.specs.Types.{type_rule};
@@ -24,5 +24,5 @@ pub fn reading_is_deriving()
 pub fn one_token_ahead_decides()
     ensures names { IsWellFormed shared production }
     ensures types { (c : Context) → is_clear shared production (base number) (type_rule c) ≡ true }
-    ensures constants { is_clear shared production (base number) constant_rule ≡ true }
+    ensures constants { is_clear shared production (base constant) constant_rule ≡ true }
 {}

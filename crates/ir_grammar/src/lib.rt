@@ -1,6 +1,6 @@
 //! The grammar of the accepted text, between its tokens and the readers of items, bodies and metadata: what a production
 //! is, what reading by one answers, and the laws of both; the kinds of tokens that the grammar decides by; and the
-//! productions that all readers share, of types, attributes, values, constants and skipped runs, with the code that reads
+//! productions that all readers share, of types, attributes, values, constants, parameters and skipped runs, with the code that reads
 //! them. Beside it stands what the kept metadata nodes are and say.
 //! The readers above say of each of their own methods which production it reads, and rely on the laws.
 #![tactic(auto)]
@@ -12,6 +12,7 @@ mod debug_laws;
 mod kind;
 mod kind_of;
 mod laws;
+mod parameters;
 mod reader;
 mod skipped;
 mod spelled;

@@ -2,16 +2,16 @@ ghost use Rattle.std.specs.Prelude.{◌≡◌, [], ◌∷◌, length, if◌then�
 ghost use Rattle.ir_grammar.specs.declared.terminal.Failure.TheVariants.{Flawed};
 ghost use Rattle.ir_grammar.specs.Reading.{starts, take, bad, unsupported};
 ghost use Rattle.ir_grammar.specs.Grammar.{Gives, deeper};
-ghost use Rattle.ir_grammar.specs.Spelled.{store_of, added, add_type, add_struct_type, add_constant, add_array, add_struct, add_address};
+ghost use Rattle.ir_grammar.specs.Spelled.{store_of, added, with_rest, add_type, add_struct_type, add_constant, add_array, add_struct, add_address, add_item, add_declare};
 
 use crate::{
-    Failure, Flaw, Kind, SpelledConstant, SpelledParameter, SpelledType, Terminal, TypedConstant,
+    Failure, Flaw, Kind, SpelledConstant, SpelledItem, SpelledParameter, SpelledType, Terminal, TypedConstant,
     TypedIndex,
 };
-use ir_core::{Fault, Limit};
+use ir_core::{Fault, Limit, Token};
 use std::alloc::Global;
 
-/// The types and constants that were read so far. The number of each is its index.
+/// What was read so far: types, constants, items and their parts. The number of each is its index.
 #[derive(Drop)]
 pub struct Spellings {
     pub types: Vec<SpelledType>,
@@ -24,6 +24,8 @@ pub struct Spellings {
     pub indices: Vec<TypedIndex>,
     /// The parameters of declares.
     pub parameters: Vec<SpelledParameter>,
+    /// The items in order of the text.
+    pub items: Vec<SpelledItem>,
 }
 
 impl Spellings {
@@ -35,6 +37,7 @@ impl Spellings {
         ensures elements { (store_of result).elements ≡ [] }
         ensures indices { (store_of result).indices ≡ [] }
         ensures parameters { (store_of result).parameters ≡ [] }
+        ensures items { (store_of result).items ≡ [] }
     {
         Spellings {
             types: Vec::new(alloc),
@@ -43,6 +46,7 @@ impl Spellings {
             elements: Vec::new(alloc),
             indices: Vec::new(alloc),
             parameters: Vec::new(alloc),
+            items: Vec::new(alloc),
         }
     }
 }
@@ -216,6 +220,34 @@ impl<'a> Reader<'a> {
         self.add_constant(SpelledConstant::Address {
             of,
             base,
+            first,
+            count,
+        })
+    }
+
+    /// Adds an item.
+    pub fn add_item(&mut self, item: SpelledItem) -> Result<(), Failure>
+        ensures { Gives (λ x. (x, self.new.rest.now, store_of self.new.found)) result (with_rest (add_item item (store_of self.old.found)) self.old.rest.now) }
+    {
+        self.found.items.push(item)?;
+        Ok(())
+    }
+
+    /// Adds the declare of a function with these parameters.
+    pub fn add_declare(
+        &mut self,
+        name: Token,
+        result_type: usize,
+        parameters: &[SpelledParameter],
+    ) -> Result<(), Failure>
+        ensures { Gives (λ x. (x, self.new.rest.now, store_of self.new.found)) result (with_rest (add_declare name result_type parameters.now (store_of self.old.found)) self.old.rest.now) }
+    {
+        let first = self.found.parameters.len();
+        let count = parameters.len();
+        self.found.parameters.extend_from_slice(parameters)?;
+        self.add_item(SpelledItem::Declare {
+            name,
+            result: result_type,
             first,
             count,
         })

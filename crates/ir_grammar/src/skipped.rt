@@ -9,7 +9,7 @@ ghost use Rattle.ir_grammar.specs.Skipped.{in_parens, in_squares, in_braces, any
 use crate::{Failure, Kind, Reader, Terminal};
 
 impl Kind {
-    /// Whether it is none of `( ) [ ] { }`.
+    /// Whether it is none of `( ) [ ] { }`, and not the end of the text.
     #[tactic(auto, using(crate::proofs::SkippedRuns::no_bracket))]
     fn is_no_bracket(self) -> bool
         ensures { result ≡ is_among all_but_brackets self }
@@ -21,6 +21,7 @@ impl Kind {
             Kind::CloseSquare,
             Kind::OpenBrace,
             Kind::CloseBrace,
+            Kind::End,
         ])
     }
 }
@@ -36,7 +37,7 @@ impl<'a> Reader<'a> {
             [next, ..] => {
                 !next
                     .kind
-                    .is_among(&[Kind::CloseParen, Kind::CloseSquare, Kind::CloseBrace])
+                    .is_among(&[Kind::CloseParen, Kind::CloseSquare, Kind::CloseBrace, Kind::End])
             }
         }
     }

@@ -49,6 +49,7 @@ pub(crate) fn refused_types(context: Context) -> &'static [Kind]
         Context::Global => &REFUSED,
         Context::GlobalTail => &REFUSED,
         Context::Declare => &REFUSED_IN_DECLARE,
+        Context::Parameter => &REFUSED,
         Context::DeclareTail => &REFUSED_IN_DECLARE,
     }
 }

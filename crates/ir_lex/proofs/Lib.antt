@@ -1,5 +1,6 @@
 pub mod Bytes
 pub mod Cuts
+pub mod Few
 pub mod Fronts
 pub mod GapLaws
 pub mod Heads

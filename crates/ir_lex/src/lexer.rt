@@ -1,8 +1,10 @@
-ghost use Rattle.std.specs.Prelude.{◌≡◌, ◌≤◌, length};
+ghost use Rattle.std.specs.Prelude.{◌≡◌, ◌≤◌, length, IfOk};
+ghost use Rattle.ir_core.specs.Tokenisation.{place_after};
 ghost use Rattle.ir_core.specs.declared.faults.Fault.TheVariants.{BadToken};
 ghost use Rattle.ir_lex.specs.Lexes.{Lexes};
 
 use crate::cursor::Cursor;
+use crate::gaps::place_behind;
 use ir_core::{Fault, Place, ReadError, Refusal, Tokens};
 use std::alloc::Global;
 
@@ -18,11 +20,8 @@ fn bad_token(place: Place) -> Refusal
     }
 }
 
-/// The tokens of a text of at most 16 MiB, in order, beside the text. The spellings are those of the LLVM Language
-/// Reference; the kinds that they are sorted into are this project's choice. The error is `Refused` with `BadToken` at
-/// the first byte at which no token can be read, exactly where the text isn't a row of tokens: for a string without an
-/// end its first byte, for an integer outside -2^127 to 2^128 - 1 its first byte. Else it is want of memory.
-pub fn lex<'a>(alloc: Global, text: &'a [u8]) -> Result<Tokens<'a>, ReadError>
+/// The tokens of a text, or its first bad token.
+fn tokens_of<'a>(alloc: Global, text: &'a [u8]) -> Result<Tokens<'a>, ReadError>
     requires { length text.now ≤ 16777216 }
     ensures { Lexes text.now result }
 {
@@ -39,4 +38,24 @@ pub fn lex<'a>(alloc: Global, text: &'a [u8]) -> Result<Tokens<'a>, ReadError>
         }
     }
     Ok(tokens)
+}
+
+/// The tokens of a text of at most 16 MiB, in order, beside the text. The spellings are those of the LLVM Language
+/// Reference; the kinds that they are sorted into are this project's choice. The error is `Refused` with `BadToken` at
+/// the first byte at which no token can be read, exactly where the text isn't a row of tokens: for a string without an
+/// end its first byte, for an integer outside -2^127 to 2^128 - 1 its first byte. Else it is want of memory.
+pub fn lex<'a>(alloc: Global, text: &'a [u8]) -> Result<Tokens<'a>, ReadError>
+    requires { length text.now ≤ 16777216 }
+    ensures lexes { Lexes text.now result }
+    ensures few { IfOk result (λ read. length read.tokens ≤ length text.now) }
+{
+    tokens_of(alloc, text)
+}
+
+/// The place behind the last byte of a text of at most 16 MiB.
+pub fn end_of(text: &[u8]) -> Place
+    requires { length text.now ≤ 16777216 }
+    ensures { result ≡ place_after text.now }
+{
+    place_behind(Place { line: 1, column: 1 }, text)
 }

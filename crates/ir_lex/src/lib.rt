@@ -12,7 +12,7 @@ mod lexer;
 mod reach;
 
 pub use laws::each_text_is_cut_in_one_way;
-pub use lexer::lex;
+pub use lexer::{end_of, lex};
 
 #[cfg(test)]
 mod tests;

@@ -6,16 +6,16 @@ use Rattle.std.proofs.lemmas.List.Elements.{All-head, All-tail, All-weaker}
 use Rattle.std.proofs.lemmas.List.Sums.{sum_by-set, count_by-le-length}
 use Rattle.std.proofs.Math.ListN.{length-set}
 use Rattle.ir_core.proofs.Capping.{layout_at-capped}
-use Rattle.ir_core.proofs.Deepening.{parts, IsLaid, is_loop-capped, parts_laid, laid_parts, deeper, deeper_to, nothing_at_first, length-within, laid_is_within, within_more}
+use Rattle.ir_core.proofs.Deepening.{IsLaid, is_loop-capped, parts_laid, laid_parts, deeper, deeper_to, nothing_at_first, length-within, laid_is_within, within_more}
 use Rattle.ir_core.specs.Layout.{layout_at, layouts_within, exact_layouts, type_layout}
 use Rattle.ir_core.specs.Progress.{is_loop, type_at}
 use Rattle.ir_core.specs.declared.types.IrType.{IrType}
-use Rattle.ir_core.specs.declared.types.IrType.TheVariants as at
 use Rattle.ir_core.specs.declared.types.TypeLayout.{TypeLayout}
 use Rattle.ir_type_numbers.specs.declared.letter.Letter.{Letter}
 use Rattle.ir_type_numbers.specs.Numbering.{number_at}
 use Rattle.ir_type_numbers.specs.SameTypes.{is_named, HasLayout}
-use Rattle.ir_type_numbers.specs.Shapes.{word_number, IsNumbering, Keeps, kind, parts_of, part_letter, shape, shape_at, IsClassed, unclassed, IsClassing, IsClosed}
+use Rattle.ir_core.specs.Holding.{held}
+use Rattle.ir_type_numbers.specs.Shapes.{word_number, IsNumbering, Keeps, kind, part_letter, shape, shape_at, IsClassed, unclassed, IsClassing, IsClosed}
 use Rattle.ir_type_numbers.proofs.Words.{word_kept, word_positive}
 
 -- parts with the same classes
@@ -29,8 +29,8 @@ map_same a b (n ∷ ns) all =
     let rest : map (part_letter a) ns ≡ map (part_letter b) ns = map_same a b ns (All-tail (Same a b) n ns all) in
     cc
 
-shape_same : (fields a b : List ℕ) (named : Bool) (own : ℕ) (t : IrType) → All (Same a b) (parts_of fields t) → shape fields a named own t ≡ shape fields b named own t
-shape_same fields a b named own t all = ap (λ letters. letters ++ kind named own t ∷ []) (map_same a b (parts_of fields t) all)
+shape_same : (fields a b : List ℕ) (named : Bool) (own : ℕ) (t : IrType) → All (Same a b) (held fields t) → shape fields a named own t ≡ shape fields b named own t
+shape_same fields a b named own t all = ap (λ letters. letters ++ kind named own t ∷ []) (map_same a b (held fields t) all)
 
 -- no type has a class at first
 pub classing_first : (types : List IrType) (fields : List ℕ) (named : List Bool) (longer : ℕ → Letter → Option ℕ) (classes : List ℕ) → length classes ≡ length types → ((n : ℕ) → number_at classes n ≡ 0) → IsNumbering longer → IsClassing types fields named longer classes
@@ -42,19 +42,10 @@ classing_first types fields named longer classes same none once = record {
   deep = λ n known. absurd (known (none n));
 }
 
-parts_are : (fields : List ℕ) (t : IrType) → parts fields t ≡ parts_of fields t
-parts_are fields at.Void = refl
-parts_are fields at.Ptr = refl
-parts_are fields (at.Int width) = refl
-parts_are fields (at.Pair width) = refl
-parts_are fields (at.Array count item) = refl
-parts_are fields (at.Struct first count packed) = refl
-parts_are fields at.Opaque = refl
-
 -- a class that was given is not 0
 pub class_positive : (types : List IrType) (fields : List ℕ) (named : List Bool) (longer : ℕ → Letter → Option ℕ) (classes : List ℕ) (n class : ℕ) → IsNumbering longer → word_number longer (shape_at types fields named classes n) ≡ Some class → 0 < class
 class_positive types fields named longer classes n class once found =
-    word_positive longer once (map (part_letter classes) (parts_of fields (type_at types n))) (kind (is_named named n) n (type_at types n)) class found
+    word_positive longer once (map (part_letter classes) (held fields (type_at types n))) (kind (is_named named n) n (type_at types n)) class found
 
 -- one fewer is without a class
 unclassed_set : (classes : List ℕ) (n class : ℕ) → n < length classes → number_at classes n ≡ 0 → 0 < class → unclassed (set classes n class) + 1 ≡ unclassed classes
@@ -72,14 +63,14 @@ pub unclassed_less : (classes : List ℕ) (n class : ℕ) → n < length classes
 unclassed_less classes n class h none more = let e = unclassed_set classes n class h none more in omega (arith, e)
 
 -- a type whose parts are laid out so many deep is so one deeper
-laid_more : (types : List IrType) (fields : List ℕ) (k n : ℕ) → n < length types → All (IsLaid (layouts_within types fields k)) (parts_of fields (type_at types n)) → IsLaid (layouts_within types fields (suc k)) n
+laid_more : (types : List IrType) (fields : List ℕ) (k n : ℕ) → n < length types → All (IsLaid (layouts_within types fields k)) (held fields (type_at types n)) → IsLaid (layouts_within types fields (suc k)) n
 laid_more types fields k n h all =
     let t : IrType = type_at types n in
-    ap is_loop (within_more types fields k n h) ∙ laid_parts fields (layouts_within types fields k) t (subst (λ ps. All (IsLaid (layouts_within types fields k)) ps) (sym (parts_are fields t)) all)
+    ap is_loop (within_more types fields k n h) ∙ laid_parts fields (layouts_within types fields k) t all
 
 -- one more type gets its class
 pub classing_more : (types : List IrType) (fields : List ℕ) (named : List Bool) (before after : ℕ → Letter → Option ℕ) (classes : List ℕ) (n class : ℕ)
-    → IsClassing types fields named before classes → n < length types → number_at classes n ≡ 0 → All (IsClassed classes) (parts_of fields (type_at types n))
+    → IsClassing types fields named before classes → n < length types → number_at classes n ≡ 0 → All (IsClassed classes) (held fields (type_at types n))
     → word_number after (shape_at types fields named classes n) ≡ Some class → Keeps before after → IsNumbering after → IsClassing types fields named after (set classes n class)
 classing_more types fields named before after classes n class was h none all found keep once =
     let new : List ℕ = set classes n class in
@@ -91,8 +82,8 @@ classing_more types fields named before after classes n class was h none all fou
       | inr ne ↦ get_or-set_other classes n m class 0 ne
     ] in
     let stays : (m : ℕ) → IsClassed classes m → IsClassed new m = λ m known z. known (sym (same m known) ∙ z) in
-    let shapes : (m : ℕ) → All (IsClassed classes) (parts_of fields (type_at types m)) → shape_at types fields named new m ≡ shape_at types fields named classes m = λ m known.
-    shape_same fields new classes (is_named named m) m (type_at types m) (All-weaker (IsClassed classes) (Same new classes) same (parts_of fields (type_at types m)) known) in
+    let shapes : (m : ℕ) → All (IsClassed classes) (held fields (type_at types m)) → shape_at types fields named new m ≡ shape_at types fields named classes m = λ m known.
+    shape_same fields new classes (is_named named m) m (type_at types m) (All-weaker (IsClassed classes) (Same new classes) same (held fields (type_at types m)) known) in
     let fewer : unclassed new + 1 ≡ unclassed classes = unclassed_set classes n class inside none (class_positive types fields named after classes n class once found) in
     let few : unclassed classes ≤ length classes = count_by-le-length (λ c. c == 0) classes in
     let long : length classes ≡ length types = was.same in
@@ -112,16 +103,16 @@ classing_more types fields named before after classes n class was h none all fou
           ];
       parts = λ m known.
           elim (cases_eq m n) [
-            | inl e ↦ All-weaker (IsClassed classes) (IsClassed new) stays (parts_of fields (type_at types m)) (subst (λ k. All (IsClassed classes) (parts_of fields (type_at types k))) (sym e) all)
+            | inl e ↦ All-weaker (IsClassed classes) (IsClassed new) stays (held fields (type_at types m)) (subst (λ k. All (IsClassed classes) (held fields (type_at types k))) (sym e) all)
             | inr ne ↦
                 let other : number_at new m ≡ number_at classes m = get_or-set_other classes n m class 0 ne in
                 let old : IsClassed classes m = λ z. known (other ∙ z) in
-                All-weaker (IsClassed classes) (IsClassed new) stays (parts_of fields (type_at types m)) (was.parts m old)
+                All-weaker (IsClassed classes) (IsClassed new) stays (held fields (type_at types m)) (was.parts m old)
           ];
       deep = λ m known.
           subst (λ k. IsLaid (layouts_within types fields k) m) (sym depth)
           (elim (cases_eq m n) [
-            | inl e ↦ subst (λ k. IsLaid (layouts_within types fields (suc before_depth)) k) (sym e) (laid_more types fields before_depth n h (All-weaker (IsClassed classes) (IsLaid (layouts_within types fields before_depth)) was.deep (parts_of fields (type_at types n)) all))
+            | inl e ↦ subst (λ k. IsLaid (layouts_within types fields (suc before_depth)) k) (sym e) (laid_more types fields before_depth n h (All-weaker (IsClassed classes) (IsLaid (layouts_within types fields before_depth)) was.deep (held fields (type_at types n)) all))
             | inr ne ↦
                 let other : number_at new m ≡ number_at classes m = get_or-set_other classes n m class 0 ne in
                 let laid : IsLaid (layouts_within types fields before_depth) m = was.deep m (λ z. known (other ∙ z)) in
@@ -130,12 +121,12 @@ classing_more types fields named before after classes n class was h none all fou
     }
 
 -- a type that is laid out so many deep stands in the list, and its parts are laid out less deep
-pub laid_within : (types : List IrType) (fields : List ℕ) (k n : ℕ) → IsLaid (layouts_within types fields (suc k)) n → (n < length types) × All (IsLaid (layouts_within types fields k)) (parts_of fields (type_at types n))
+pub laid_within : (types : List IrType) (fields : List ℕ) (k n : ℕ) → IsLaid (layouts_within types fields (suc k)) n → (n < length types) × All (IsLaid (layouts_within types fields k)) (held fields (type_at types n))
 laid_within types fields k n h =
     let inside : n < length types = subst (λ m. n < m) (length-within types fields (suc k)) (laid_is_within (layouts_within types fields (suc k)) n h) in
     let t : IrType = type_at types n in
     let e : layout_at (layouts_within types fields (suc k)) n ≡ type_layout fields (layouts_within types fields k) t = within_more types fields k n inside in
-    (inside, subst (λ ps. All (IsLaid (layouts_within types fields k)) ps) (parts_are fields t) (parts_laid fields (layouts_within types fields k) t (sym (ap is_loop e) ∙ h)))
+    (inside, parts_laid fields (layouts_within types fields k) t (sym (ap is_loop e) ∙ h))
 
 pub nothing_laid : (types : List IrType) (fields : List ℕ) (n : ℕ) → IsLaid (layouts_within types fields zero) n → ⊥
 nothing_laid types fields n h = let no : is_loop (layout_at (layouts_within types fields zero) n) ≡ true = ap is_loop (nothing_at_first types fields n) in cc
@@ -145,7 +136,7 @@ pub complete : (types : List IrType) (fields classes : List ℕ) → IsClosed ty
 complete types fields classes closed zero n h = absurd (nothing_laid types fields n h)
 complete types fields classes closed (suc k) n h =
     let below = laid_within types fields k n h in
-    closed n below.0 (All-weaker (IsLaid (layouts_within types fields k)) (IsClassed classes) (λ m known. complete types fields classes closed k m known) (parts_of fields (type_at types n)) below.1)
+    closed n below.0 (All-weaker (IsLaid (layouts_within types fields k)) (IsClassed classes) (λ m known. complete types fields classes closed k m known) (held fields (type_at types n)) below.1)
 
 -- a type with a layout is laid out at some depth
 pub laid_out : (types : List IrType) (fields : List ℕ) (n : ℕ) → HasLayout types fields n → IsLaid (layouts_within types fields (length types)) n

@@ -13,7 +13,8 @@ use Rattle.ir_type_numbers.specs.declared.letter.Letter.{Letter}
 use Rattle.ir_type_numbers.specs.declared.letter.Letter.TheVariants.{Own, Array, Struct, Part}
 use Rattle.ir_type_numbers.specs.Numbering.{number_at}
 use Rattle.ir_type_numbers.specs.SameTypes.{is_named, IsSame, itself, voids, pointers, integers, pairs, arrays, structs, HasLayout}
-use Rattle.ir_type_numbers.specs.Shapes.{word_number, struct_kind, kind, parts_of, part_letter, shape, shape_at, IsClassed, IsClassing, IsClosed}
+use Rattle.ir_core.specs.Holding.{held}
+use Rattle.ir_type_numbers.specs.Shapes.{word_number, struct_kind, kind, part_letter, shape, shape_at, IsClassed, IsClassing, IsClosed}
 use Rattle.ir_type_numbers.proofs.Words.{word_once}
 use Rattle.ir_type_numbers.proofs.Classing.{laid_within, nothing_laid, complete, laid_out}
 
@@ -36,8 +37,8 @@ class_from_types types fields named longer classes c a b ka kb s t sa sb m n na 
     class_from_shape types fields named longer classes c a b ka kb (ha ∙ (e ∙ sym hb))
 
 -- the parts of a type with a class have classes
-parts_classed : (types : List IrType) (fields : List ℕ) (named : List Bool) (longer : ℕ → Letter → Option ℕ) (classes : List ℕ) → IsClassing types fields named longer classes → (a : ℕ) → IsClassed classes a → (s : IrType) → slice_get types a ≡ Some s → All (IsClassed classes) (parts_of fields s)
-parts_classed types fields named longer classes c a ka s sa = subst (λ t. All (IsClassed classes) (parts_of fields t)) (get_or_from_slice_get types a s at.Void sa) (c.parts a ka)
+parts_classed : (types : List IrType) (fields : List ℕ) (named : List Bool) (longer : ℕ → Letter → Option ℕ) (classes : List ℕ) → IsClassing types fields named longer classes → (a : ℕ) → IsClassed classes a → (s : IrType) → slice_get types a ≡ Some s → All (IsClassed classes) (held fields s)
+parts_classed types fields named longer classes c a ka s sa = subst (λ t. All (IsClassed classes) (held fields t)) (get_or_from_slice_get types a s at.Void sa) (c.parts a ka)
 
 -- parts of the same classes in order have the same letters
 letters_same : (classes : List ℕ) (xs ys : List ℕ) → length xs ≡ length ys → ((k : ℕ) → k < length xs → number_at classes (number_at xs k) ≡ number_at classes (number_at ys k)) → map (part_letter classes) xs ≡ map (part_letter classes) ys
@@ -122,8 +123,8 @@ one_is_itself types fields named a b e = subst (λ n. IsSame types fields named 
 -- types of one shape are one, where their parts are
 from_shape : (types : List IrType) (fields : List ℕ) (named : List Bool) (classes : List ℕ) (a b : ℕ) (s t : IrType) (m n : Bool)
     → slice_get types a ≡ Some s → slice_get types b ≡ Some t → is_named named a ≡ m → is_named named b ≡ n
-    → kind m a s ≡ kind n b t → map (part_letter classes) (parts_of fields s) ≡ map (part_letter classes) (parts_of fields t)
-    → ((k : ℕ) → k < length (parts_of fields s) → k < length (parts_of fields t) → number_at classes (number_at (parts_of fields s) k) ≡ number_at classes (number_at (parts_of fields t) k) → IsSame types fields named (number_at (parts_of fields s) k) (number_at (parts_of fields t) k))
+    → kind m a s ≡ kind n b t → map (part_letter classes) (held fields s) ≡ map (part_letter classes) (held fields t)
+    → ((k : ℕ) → k < length (held fields s) → k < length (held fields t) → number_at classes (number_at (held fields s) k) ≡ number_at classes (number_at (held fields t) k) → IsSame types fields named (number_at (held fields s) k) (number_at (held fields t) k))
     → IsSame types fields named a b
 from_shape types fields named classes a b (at.Struct first count packed) t true n sa sb na nb kinds letters each = one_is_itself types fields named a b (own_kind n a b t kinds)
 from_shape types fields named classes a b at.Opaque t m n sa sb na nb kinds letters each = one_is_itself types fields named a b (own_kind n a b t kinds)
@@ -168,10 +169,10 @@ class_same types fields named longer classes c closed (suc k) a b laid kb e =
     word_once longer c.numbering (shape_at types fields named classes a) (shape_at types fields named classes b) (number_at classes a) (c.right a ka) (c.right b kb ∙ ap Some (sym e)) in
     let s : IrType = type_at types a in
     let t : IrType = type_at types b in
-    let ends = ends_same (map (part_letter classes) (parts_of fields s)) (map (part_letter classes) (parts_of fields t)) (kind (is_named named a) a s) (kind (is_named named b) b t) words in
+    let ends = ends_same (map (part_letter classes) (held fields s)) (map (part_letter classes) (held fields t)) (kind (is_named named a) a s) (kind (is_named named b) b t) words in
     from_shape types fields named classes a b s t (is_named named a) (is_named named b)
     (slice_get-get_or types a at.Void below.0) (slice_get-get_or types b at.Void inside) refl refl ends.1 ends.0
-    (λ i lt more same. class_same types fields named longer classes c closed k (number_at (parts_of fields s) i) (number_at (parts_of fields t) i) (below.1 i 0 lt) (c.parts b kb i 0 more) same)
+    (λ i lt more same. class_same types fields named longer classes c closed k (number_at (held fields s) i) (number_at (held fields t) i) (below.1 i 0 lt) (c.parts b kb i 0 more) same)
 
 pub same_exactly : (types : List IrType) (fields : List ℕ) (named : List Bool) (longer : ℕ → Letter → Option ℕ) (classes : List ℕ) → IsClassing types fields named longer classes → IsClosed types fields classes
     → (a b : ℕ) → HasLayout types fields a → HasLayout types fields b → (number_at classes a ≡ number_at classes b) ↔ IsSame types fields named a b

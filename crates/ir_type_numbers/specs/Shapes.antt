@@ -3,7 +3,8 @@
 use Rattle.std.specs.Prelude.{ℕ, ◌-◌, ◌≡◌, ◌≢◌, ◌<◌, Bool, true, false, ◌==◌, List, [], ◌∷◌, ◌++◌, map, length, count_by, Option, Some, None, All}
 use Rattle.ir_core.specs.declared.types.IrType.{IrType}
 use Rattle.ir_core.specs.declared.types.IrType.TheVariants as types
-use Rattle.ir_core.specs.Layout.{field_types, layout_at, layouts_within}
+use Rattle.ir_core.specs.Holding.{held}
+use Rattle.ir_core.specs.Layout.{layout_at, layouts_within}
 use Rattle.ir_core.specs.Progress.{is_loop, type_at}
 use Rattle.ir_type_numbers.specs.declared.letter.Letter.{Letter}
 use Rattle.ir_type_numbers.specs.declared.letter.Letter.TheVariants.{Own, Void, Ptr, Int, Pair, Array, Struct, Part}
@@ -44,23 +45,13 @@ kind named own (types.Array count item) = Array count
 kind named own (types.Struct first count packed) = struct_kind named own packed
 kind named own types.Opaque = Own own
 
--- the numbers of the types that a type holds
-abbrev pub parts_of : List ℕ → IrType → List ℕ
-parts_of fields types.Void = []
-parts_of fields types.Ptr = []
-parts_of fields (types.Int width) = []
-parts_of fields (types.Pair width) = []
-parts_of fields (types.Array count item) = item ∷ []
-parts_of fields (types.Struct first count packed) = field_types fields first count
-parts_of fields types.Opaque = []
-
 -- the letter of a part: its class
 abbrev pub part_letter : List ℕ → ℕ → Letter
 part_letter classes part = Part (number_at classes part)
 
 -- a type's shape by the classes of its parts
 abbrev pub shape : List ℕ → List ℕ → Bool → ℕ → IrType → List Letter
-shape fields classes named own type = map (part_letter classes) (parts_of fields type) ++ kind named own type ∷ []
+shape fields classes named own type = map (part_letter classes) (held fields type) ++ kind named own type ∷ []
 
 -- the shape of the type with a number
 abbrev pub shape_at : List IrType → List ℕ → List Bool → List ℕ → ℕ → List Letter
@@ -80,12 +71,12 @@ pub record IsClassing (types : List IrType) (fields : List ℕ) (named : List Bo
   pub same : length classes ≡ length types
   pub numbering : IsNumbering longer
   pub right : (n : ℕ) → IsClassed classes n → word_number longer (shape_at types fields named classes n) ≡ Some (number_at classes n)
-  pub parts : (n : ℕ) → IsClassed classes n → All (IsClassed classes) (parts_of fields (type_at types n))
+  pub parts : (n : ℕ) → IsClassed classes n → All (IsClassed classes) (held fields (type_at types n))
   pub deep : (n : ℕ) → IsClassed classes n → is_loop (layout_at (layouts_within types fields (length types - unclassed classes)) n) ≡ false
 
 -- a type whose parts have classes has one
 abbrev pub IsClosedAt : List IrType → List ℕ → List ℕ → ℕ → Type 0
-IsClosedAt types fields classes n = All (IsClassed classes) (parts_of fields (type_at types n)) → IsClassed classes n
+IsClosedAt types fields classes n = All (IsClassed classes) (held fields (type_at types n)) → IsClassed classes n
 
 -- no further type can get a class
 abbrev pub IsClosed : List IrType → List ℕ → List ℕ → Type 0

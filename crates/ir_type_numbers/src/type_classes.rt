@@ -4,7 +4,8 @@ ghost use Rattle.ir_type_numbers.specs.declared.letter.Letter.{Letter};
 ghost use Rattle.ir_type_numbers.specs.declared.letter.Letter.TheVariants.{Part};
 ghost use Rattle.ir_type_numbers.specs.Numbering.{number_at};
 ghost use Rattle.ir_type_numbers.specs.SameTypes.{is_named, HasLayout, IsSame};
-ghost use Rattle.ir_type_numbers.specs.Shapes.{word_number, IsNumbering, Keeps, kind, parts_of, part_letter, shape, shape_at, IsClassed, unclassed, IsClassing, IsClosedAt, IsClosed};
+ghost use Rattle.ir_core.specs.Holding.{held};
+ghost use Rattle.ir_type_numbers.specs.Shapes.{word_number, IsNumbering, Keeps, kind, part_letter, shape, shape_at, IsClassed, unclassed, IsClassing, IsClosedAt, IsClosed};
 ghost use Rattle.ir_type_numbers.specs.WordMap.{longer_in};
 
 use crate::letter::Letter;
@@ -92,8 +93,8 @@ fn all_classed(classes: &[u64], parts: &[u32]) -> bool
 
 /// Whether all that a type holds has classes.
 fn are_parts_classed(fields: &[u32], classes: &[u64], ty: IrType) -> bool
-    ensures yes { IsTrue result → All (IsClassed classes.now) (parts_of fields.now ty) }
-    ensures no { IsFalse result → All (IsClassed classes.now) (parts_of fields.now ty) → ⊥ }
+    ensures yes { IsTrue result → All (IsClassed classes.now) (held fields.now ty) }
+    ensures no { IsFalse result → All (IsClassed classes.now) (held fields.now ty) → ⊥ }
 {
     match ty {
         IrType::Array { item, .. } => all_classed(classes, &[item]),

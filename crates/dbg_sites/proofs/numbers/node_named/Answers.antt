@@ -1,5 +1,5 @@
 use Rattle.std.proofs.Common.{List, sym, ap, ◌∙◌}
-use Rattle.ir_grammar.specs.DebugText.{number_behind_bang}
+use Rattle.ir_text.specs.TokenText.{number_behind_bang}
 use Rattle.ir_grammar.specs.DebugFields.{lexeme}
 use Rattle.ir_grammar.specs.DebugNodes.{Definition, place_of}
 use Rattle.dbg_sites.specs.Read.{definitions_of}

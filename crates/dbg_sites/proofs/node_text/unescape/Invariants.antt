@@ -1,9 +1,0 @@
-use Rattle.std.proofs.Common.{◌≡◌, ◌++◌, length}
-use Rattle.ir_grammar.specs.DebugText.{unescaped, unescaped_behind}
-use Rattle.dbg_sites.proofs.node_text.unescape.Given as goal
-
-abbrev pub invariant-loop-rest : goal.invariant-loop-rest
-invariant-loop-rest l = l.out ++ unescaped_behind l.taken l.rest ≡ unescaped l.fn.bytes
-
-abbrev pub decreases-loop-rest : goal.decreases-loop-rest
-decreases-loop-rest l = length l.rest

@@ -1,0 +1,5 @@
+pub mod Digits
+pub mod First
+pub mod FirstPlaces
+pub mod Meant
+pub mod Orders

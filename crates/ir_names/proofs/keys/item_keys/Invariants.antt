@@ -1,0 +1,10 @@
+use Rattle.std.proofs.Common.{◌≡◌, ◌++◌, length}
+use Rattle.ir_names.specs.Keys.{item_keys}
+use Rattle.ir_names.specs.Places.{keys_in}
+use Rattle.ir_names.proofs.keys.item_keys.Given as goal
+
+abbrev pub invariant-loop-rest : goal.invariant-loop-rest
+invariant-loop-rest l = keys_in l.keys.items ++ item_keys l.source l.rest ≡ item_keys l.source l.fn.items
+
+abbrev pub decreases-loop-rest : goal.decreases-loop-rest
+decreases-loop-rest l = length l.rest

@@ -1,0 +1,7 @@
+pub mod Faults
+pub mod First
+pub mod Keys
+pub mod Meanings
+pub mod Numbers
+pub mod Places
+pub mod Sets

@@ -1,0 +1,149 @@
+ghost use Rattle.std.specs.Prelude.{◌≡◌, ◌<◌, ◌^◌, ◌+◌, length, map, IfOk};
+ghost use Rattle.std.specs.List.{flat_map};
+ghost use Rattle.ir_names.specs.Keys.{global_key, meant};
+ghost use Rattle.ir_names.specs.First.{first_beside};
+ghost use Rattle.ir_names.specs.Faults.{meaning_faults, constant_faults};
+ghost use Rattle.ir_names.specs.Meanings.{numbered, number_at, variable};
+
+use crate::fault::{NameFault, beside_fault_if};
+use crate::index::Index;
+use crate::keys::{global_key, meant, text_of};
+use hw_base::OutOfMemory;
+use ir_core::{Fault, Token};
+use ir_grammar::{SpelledConstant, SpelledItem};
+use ir_text::is_constructor_list;
+use std::alloc::Global;
+
+/// The first fault, beside that at a global's name that means this item.
+fn beside_meaning(
+    token: &Token,
+    item: Option<SpelledItem>,
+    first: Option<NameFault>,
+) -> Option<NameFault>
+    ensures { result ≡ first_beside first (meaning_faults token.now item) }
+{
+    match item {
+        None => beside_fault_if(first, true, Fault::Unknown, *token),
+        Some(SpelledItem::Declare { .. }) => {
+            beside_fault_if(first, true, Fault::Unsupported, *token)
+        }
+        Some(_) => first,
+    }
+}
+
+/// The first fault, beside those at a constant.
+fn beside_constant(
+    alloc: Global,
+    source: &[u8],
+    index: &Index,
+    items: &[SpelledItem],
+    constant: &SpelledConstant,
+    first: Option<NameFault>,
+) -> Result<Option<NameFault>, OutOfMemory>
+    ensures { IfOk result (λ f. f ≡ first_beside first (constant_faults source.now index.now items.now constant.now)) }
+{
+    match constant {
+        SpelledConstant::Local(token) => {
+            Ok(beside_fault_if(first, true, Fault::Unknown, *token))
+        }
+        SpelledConstant::Global(token) => {
+            let key = global_key(alloc, source, token)?;
+            let constructors = is_constructor_list(text_of(source, token));
+            let refused = beside_fault_if(first, constructors, Fault::Unsupported, *token);
+            Ok(beside_meaning(token, meant(index, items, key.as_slice()), refused))
+        }
+        _ => Ok(first),
+    }
+}
+
+/// The first fault, beside those at constants.
+pub(crate) fn beside_constants(
+    alloc: Global,
+    source: &[u8],
+    index: &Index,
+    items: &[SpelledItem],
+    constants: &[SpelledConstant],
+    first: Option<NameFault>,
+) -> Result<Option<NameFault>, OutOfMemory>
+    ensures { IfOk result (λ f. f ≡ first_beside first (flat_map (constant_faults source.now index.now items.now) constants.now)) }
+{
+    let mut found = first;
+    let mut rest = constants;
+    while let [constant, after @ ..] = rest {
+        found = beside_constant(alloc, source, index, items, constant, found)?;
+        rest = after;
+    }
+    Ok(found)
+}
+
+/// The numbers of global variables in order of the text, one an item; other items have none.
+pub(crate) fn numbered(
+    alloc: Global,
+    items: &[SpelledItem],
+) -> Result<Vec<Option<u32>>, OutOfMemory>
+    requires { length items.now < 2 ^ 32 }
+    ensures { IfOk result (λ numbers. numbers.items ≡ numbered 0 items.now) }
+{
+    let mut numbers = Vec::new(alloc);
+    let mut n: u32 = 0;
+    let mut rest = items;
+    while let [item, after @ ..] = rest {
+        match item {
+            SpelledItem::Global { .. } => {
+                numbers.push(Some(n))?;
+                n += 1;
+            }
+            _ => numbers.push(None)?,
+        }
+        rest = after;
+    }
+    Ok(numbers)
+}
+
+/// The number at a place, or none.
+fn number_at(numbers: &[Option<u32>], place: Option<usize>) -> Option<u32>
+    ensures { result ≡ number_at numbers.now place }
+{
+    match place {
+        None => None,
+        Some(i) => numbers.get(i).copied().unwrap_or(None),
+    }
+}
+
+/// The number of the variable that a constant names, or none.
+fn variable(
+    alloc: Global,
+    source: &[u8],
+    index: &Index,
+    numbers: &[Option<u32>],
+    constant: &SpelledConstant,
+) -> Result<Option<u32>, OutOfMemory>
+    ensures { IfOk result (λ n. n ≡ variable source.now index.now numbers.now constant.now) }
+{
+    match constant {
+        SpelledConstant::Global(token) => {
+            let key = global_key(alloc, source, token)?;
+            Ok(number_at(numbers, index.first_with(key.as_slice())))
+        }
+        _ => Ok(None),
+    }
+}
+
+/// The numbers of the variables that constants name, one a constant.
+pub(crate) fn variables_of(
+    alloc: Global,
+    source: &[u8],
+    index: &Index,
+    numbers: &[Option<u32>],
+    constants: &[SpelledConstant],
+) -> Result<Vec<Option<u32>>, OutOfMemory>
+    ensures { IfOk result (λ found. found.items ≡ map (variable source.now index.now numbers.now) constants.now) }
+{
+    let mut found = Vec::new(alloc);
+    let mut rest = constants;
+    while let [constant, after @ ..] = rest {
+        found.push(variable(alloc, source, index, numbers, constant)?)?;
+        rest = after;
+    }
+    Ok(found)
+}

@@ -1,0 +1,22 @@
+ghost use Rattle.std.specs.Prelude.{◌≡◌, ℕ, List, [], All, Contains, Some, None, false};
+ghost use Rattle.ir_core.specs.declared.token.Token.{Token};
+ghost use Rattle.ir_grammar.specs.declared.spelled.SpelledItem.{SpelledItem};
+ghost use Rattle.ir_names.specs.declared.fault.NameFault.{NameFault};
+ghost use Rattle.ir_names.specs.First.{first_fault, is_before};
+ghost use Rattle.ir_names.specs.Keys.{type_key, global_key, item_key, item_keys, meant};
+ghost use Rattle.ir_names.specs.Sets.{DefinesType, DefinesGlobal};
+
+/// The first fault is one of the faults, none of them comes before it, and there is one wherever there are faults.
+pub fn the_first_fault_is_before_all_others()
+    ensures among { (faults : List NameFault) (fault : NameFault) → first_fault faults ≡ Some fault → Contains faults fault }
+    ensures first { (faults : List NameFault) (fault : NameFault) → first_fault faults ≡ Some fault → All (λ other. is_before other fault ≡ false) faults }
+    ensures none { (faults : List NameFault) → first_fault faults ≡ None → faults ≡ [] }
+{}
+
+/// An item that a key means has this key, so a type's name means only a type, and a global's name only a global variable or
+/// a function.
+pub fn a_name_means_what_has_it()
+    ensures key { (source key : List ℕ) (items : List SpelledItem) (item : SpelledItem) → meant (item_keys source items) items key ≡ Some item → item_key source item ≡ key }
+    ensures types { (source : List ℕ) (items : List SpelledItem) (token : Token) (item : SpelledItem) → meant (item_keys source items) items (type_key source token) ≡ Some item → DefinesType item }
+    ensures globals { (source : List ℕ) (items : List SpelledItem) (token : Token) (item : SpelledItem) → meant (item_keys source items) items (global_key source token) ≡ Some item → DefinesGlobal item }
+{}

@@ -1,0 +1,25 @@
+//! What the names of a module mean, outside the bodies of its functions: which names are one, the first fault of a name, and
+//! what stands for the names of types and of global variables. The main call is `resolve_names`, on the items of a text as
+//! they were read. The layer above takes its answer for the fault of a text, or builds the module's types and first values by
+//! it, without comparing a name again.
+#![tactic(auto)]
+
+mod constants;
+mod counter;
+mod definitions;
+mod fault;
+mod index;
+mod keys;
+mod laws;
+mod parameters;
+mod references;
+mod resolve;
+mod types;
+
+pub use fault::{NameFault, NamesError};
+pub use laws::{a_name_means_what_has_it, the_first_fault_is_before_all_others};
+pub use references::References;
+pub use resolve::resolve_names;
+
+#[cfg(test)]
+mod tests;

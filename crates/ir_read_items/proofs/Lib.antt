@@ -1,0 +1,4 @@
+pub mod ItemLists
+pub mod ItemsKept
+pub mod ModuleClear
+pub mod Spelled

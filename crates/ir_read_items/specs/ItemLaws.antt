@@ -1,0 +1,45 @@
+-- The laws that tie what a text spells to what the grammar derives.
+use Rattle.std.specs.Prelude.{ℕ, List, [], ◌∷◌, ◌++◌, suc, length, ◌≡◌, Ok, Err}
+use Rattle.ir_core.specs.declared.token.Token.{Token}
+use Rattle.ir_core.specs.declared.refusals.Place.{Place}
+use Rattle.ir_core.specs.declared.faults.Fault.TheVariants.{TooLarge}
+use Rattle.ir_core.specs.declared.faults.Limit.TheVariants.{Nesting}
+use Rattle.ir_grammar.specs.declared.terminal.Terminal.{Terminal}
+use Rattle.ir_grammar.specs.declared.terminal.Flaw.{Flaw}
+use Rattle.ir_grammar.specs.Rules.{nothing, Derives}
+use Rattle.ir_grammar.specs.Prefixes.{Begins}
+use Rattle.ir_grammar.specs.Names.{shared}
+use Rattle.ir_grammar.specs.Spelled.{Store}
+use Rattle.ir_grammar.specs.KindOf.{text_of}
+use Rattle.ir_grammar.specs.Grammar.{production, nesting_limit}
+use Rattle.ir_read_items.specs.Items.{module_rule}
+use Rattle.ir_read_items.specs.ItemReading.{nothing_read, spelled}
+
+-- the tokens are a module, with fewer than this many brackets around one another, and this is what it spells
+abbrev pub IsModule : ℕ → List Terminal → Store → Type 0
+IsModule levels tokens store = Derives shared production levels nothing module_rule tokens nothing_read tt store
+
+-- a text that is read is a module of the grammar, and spells what the grammar says
+abbrev pub SpelledIsModule : Type 0
+SpelledIsModule = (source : List ℕ) (tokens : List Token) (end : Place) (store : Store)
+    → spelled (text_of source tokens end) ≡ Ok store → IsModule nesting_limit (text_of source tokens end) store
+
+-- each module of the grammar is read
+abbrev pub ModuleIsSpelled : Type 0
+ModuleIsSpelled = (tokens : List Terminal) (store : Store) → IsModule nesting_limit tokens store → spelled tokens ≡ Ok store
+
+-- the tokens before a fault begin a module
+abbrev pub BeforeFaultBegins : Type 0
+BeforeFaultBegins = (tokens : List Terminal) (e : Flaw) → spelled tokens ≡ Err e
+    → (front : List Terminal) × (rest : List Terminal) × (tokens ≡ front ++ rest) × (length rest ≡ e.left) × Begins shared production nothing module_rule front nothing_read
+
+-- with the token at a fault they begin none, of any depth; a fault of Nesting aside
+abbrev pub FaultEnds : Type 0
+FaultEnds = (front : List Terminal) (token : Terminal) (rest : List Terminal) (e : Flaw)
+    → spelled (front ++ token ∷ rest) ≡ Err e → e.left ≡ suc (length rest) → (e.fault ≡ TooLarge Nesting → ⊥)
+    → Begins shared production nothing module_rule (front ++ token ∷ []) nothing_read → ⊥
+
+-- a text with a fault is no module of any depth; a fault of Nesting aside
+abbrev pub FaultIsNoModule : Type 0
+FaultIsNoModule = (tokens : List Terminal) (e : Flaw) → spelled tokens ≡ Err e → (e.fault ≡ TooLarge Nesting → ⊥)
+    → (levels : ℕ) (store : Store) → IsModule levels tokens store → ⊥

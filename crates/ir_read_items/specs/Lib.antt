@@ -1,0 +1,3 @@
+pub mod ItemLaws
+pub mod ItemReading
+pub mod Items

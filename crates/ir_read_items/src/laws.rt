@@ -1,0 +1,11 @@
+ghost use Rattle.ir_read_items.specs.ItemLaws.{SpelledIsModule, ModuleIsSpelled, BeforeFaultBegins, FaultEnds, FaultIsNoModule};
+
+/// The law of items: exactly the modules of the grammar are read, with what they spell, and a fault stands at the first
+/// token with which no module begins. The end of the text is a token.
+pub fn texts_are_modules()
+    ensures read { SpelledIsModule }
+    ensures complete { ModuleIsSpelled }
+    ensures before { BeforeFaultBegins }
+    ensures at { FaultEnds }
+    ensures whole { FaultIsNoModule }
+{}

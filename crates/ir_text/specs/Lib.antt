@@ -1,0 +1,3 @@
+pub mod DataLayout
+pub mod Names
+pub mod TokenText
