@@ -18,7 +18,7 @@ pub struct Initializers<'a> {
     /// For each spelled type the number of the module's type that it stands for.
     pub numbers: &'a [u32],
     /// For each type of the module its class. Two types that have a size are one type exactly where these are equal.
-    pub classes: &'a [u32],
+    pub classes: &'a [u64],
     /// For each spelled constant that is the name of a global variable the variable's number.
     pub variables: &'a [Option<u32>],
 }
@@ -44,7 +44,7 @@ fn indices_from(indices: &[TypedIndex], first: usize, count: usize) -> &[TypedIn
 }
 
 /// Whether both are there and equal.
-fn are_equal(a: Option<u32>, b: Option<u32>) -> bool
+fn are_equal(a: Option<u64>, b: Option<u64>) -> bool
     ensures { result ≡ are_equal a b }
 {
     match a {
@@ -119,14 +119,14 @@ impl<'a> Initializers<'a> {
     }
 
     /// The class of the type with this number.
-    fn class_at(&self, ty: u32) -> Option<u32>
+    fn class_at(&self, ty: u32) -> Option<u64>
         ensures { result ≡ slice_get (tables_of self.now).classes ty }
     {
         self.classes.get(ty as usize).copied()
     }
 
     /// The class of the type that a spelled type stands for.
-    fn spelled_class(&self, spelled: usize) -> Option<u32>
+    fn spelled_class(&self, spelled: usize) -> Option<u64>
         ensures { result ≡ class_by (tables_of self.now) (slice_get (tables_of self.now).numbers spelled) }
     {
         match self.number_of(spelled) {

@@ -30,7 +30,8 @@ use Rattle.ir_names.specs.First.{first_fault}
 use Rattle.ir_names.specs.Faults.{name_faults}
 use Rattle.ir_names.specs.Meanings.{leads_of}
 use Rattle.ir_type_numbers.specs.Numbering.{stands_for, module_types, module_fields}
-use Rattle.ir_read_top.specs.Module.{AreLibsOf, with_pairs, declares_of}
+use Rattle.ir_read_top.specs.Module.{AreLibsOf, named_marks, with_pairs, declares_of}
+use Rattle.ir_read_top.specs.Globals.{AreClasses, tables, globals_of}
 
 -- how many bytes a text may have: 16 MiB
 abbrev pub text_limit : ℕ
@@ -70,6 +71,10 @@ pub record IsModuleOf (text : List ℕ) (tokens : List Token) (store : Store) (m
   pub fields : m.fields ≡ module_fields store.fields (numbers_of text store)
   pub types : m.types ≡ with_pairs store.types m.fields (module_types store.types (numbers_of text store)) store.items libs
   pub layouts : m.layouts ≡ layouts_of m.types m.fields
+  -- which types are one
+  pub classes : List ℕ
+  pub classes_right : AreClasses m.types m.fields (named_marks store.items store.types) classes
+  pub globals : m.globals ≡ globals_of (tables text store (numbers_of text store) classes m) store.items
   pub declares : m.declares ≡ declares_of (numbers_of text store) store.parameters store.items libs
   pub functions : m.functions ≡ []
   pub main : m.main ≡ 0

@@ -5,6 +5,7 @@
 
 mod assembly;
 mod declared;
+mod global_variables;
 mod marks;
 mod pairs;
 mod reading;

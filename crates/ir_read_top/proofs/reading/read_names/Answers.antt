@@ -5,6 +5,14 @@ use Rattle.ir_read_top.specs.Texts.{ReadsText}
 use Rattle.ir_read_top.proofs.Phases.{misnamed_text}
 use Rattle.ir_read_top.proofs.reading.read_names.Goals as goal
 
+pub module_of-requires-clause-names : goal.module_of-requires-clause-names
+module_of-requires-clause-names c =
+    let store = store_of c.args.found.now in
+    let resolved : IsResolution c.args.tokens.now.source c.args.found.now.items.items store c.in-Ok.references =
+        subst (λ v. IsResolution v c.args.found.now.items.items store c.in-Ok.references) c.source.ensures
+        (subst (λ v. IsResolution c.source.result.now v store c.in-Ok.references) c.deref.ensures.value c.in-Ok.ensures) in
+    resolved.variables
+
 pub returns-in-Ok-module_of : goal.returns-in-Ok-module_of
 returns-in-Ok-module_of c =
     let store = store_of c.args.found.now in
