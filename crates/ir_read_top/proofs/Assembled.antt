@@ -5,7 +5,10 @@ use Rattle.ir_core.specs.declared.token.Token.{Token}
 use Rattle.ir_core.specs.declared.types.IrType.{IrType}
 use Rattle.ir_core.specs.declared.lib_functions.Lib.{Lib}
 use Rattle.ir_core.specs.declared.ir_module.Module.{Module}
+use Rattle.ir_grammar.specs.declared.spelled.SpelledType.{SpelledType}
+use Rattle.ir_grammar.specs.declared.spelled.SpelledItem.{SpelledItem}
 use Rattle.ir_grammar.specs.Spelled.{Store}
+use Rattle.ir_type_numbers.specs.declared.numbering.NumberedTypes.{NumberedTypes}
 use Rattle.ir_type_numbers.specs.Numbering.{module_types, module_fields}
 use Rattle.ir_read_top.specs.Module.{AreLibsOf, with_pairs, declares_of}
 use Rattle.ir_read_top.specs.Globals.{tables, globals_of}
@@ -29,6 +32,14 @@ module_is text tokens store types fields libs m libs_right types_right fields_ri
   main = a.main;
   meta = a.meta;
 }
+
+-- the types with pairs, by other names for what they are made of
+pub types_from : {E : Type 0} (spelled : List SpelledType) (items : List SpelledItem) (libs : List (Option Lib)) (fields : List ℕ) (given wanted : List IrType) (result : Result NumberedTypes E)
+    → given ≡ wanted → IfOk result (λ n. n.types ≡ with_pairs spelled fields given items libs) → IfOk result (λ n. n.fields ≡ fields)
+    → IfOk result (λ n. n.types ≡ with_pairs spelled n.fields wanted items libs)
+types_from spelled items libs fields given wanted (Err e) same types_are fields_are = tt
+types_from spelled items libs fields given wanted (Ok n) same types_are fields_are =
+    types_are ∙ (ap (λ t. with_pairs spelled fields t items libs) same ∙ ap (λ f. with_pairs spelled f wanted items libs) (sym fields_are))
 
 -- the module of what was assembled, unless memory ran out
 pub module_from : {E : Type 0} (text : List ℕ) (tokens : List Token) (store : Store) (numbers : List ℕ) (types : List IrType) (fields : List ℕ) (libs : List (Option Lib)) (result : Result Module E)
