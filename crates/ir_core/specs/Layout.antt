@@ -1,7 +1,7 @@
 -- The room that types take in memory: sizes and alignments in bytes (LLVM Language Reference, "Data Layout"; the
 -- alignments are those that Clang uses for 64-bit Arm). A type holds the item of its array, or its fields; a pointer
 -- holds nothing.
-use Rattle.std.specs.Prelude.{ℕ, zero, suc, ◌+◌, ◌-◌, ◌*◌, ◌/◌, ◌%◌, ◌^◌, ◌<◌, min, max, Bool, true, false, nat_le, if◌then◌else◌, List, [], ◌∷◌, map, take, drop, length, fold, slice_get, slice_index_or, Some, Option}
+use Rattle.std.specs.Prelude.{ℕ, zero, suc, ◌+◌, ◌-◌, ◌*◌, ◌/◌, ◌%◌, ◌^◌, ◌<◌, min, max, Bool, true, false, nat_le, if◌then◌else◌, List, [], ◌∷◌, map, take, drop, length, fold, slice_get, slice_index, slice_index_or, ◌≡◌, Some, Option}
 use Rattle.ir_core.specs.declared.types.IrType.{IrType}
 use Rattle.ir_core.specs.declared.types.IrType.TheVariants.{Void, Int, Ptr, Array, Struct, Opaque, Pair}
 use Rattle.ir_core.specs.declared.types.TypeLayout.{TypeLayout}
@@ -161,3 +161,8 @@ field_offset_of types fields n k = field_offset_by fields (exact_layouts types f
 abbrev pub IsField : List ℕ → Option IrType → ℕ → Type 0
 IsField fields (Some (Struct first count packed)) k = k < length (field_types fields first count)
 IsField fields other k = ⊥
+
+-- the offsets of all fields of a type, if it is a struct, in order
+abbrev pub AreFieldOffsets : List IrType → List ℕ → ℕ → List ℕ → Type 0
+AreFieldOffsets types fields n offsets =
+    (k : ℕ) → IsField fields (slice_get types n) k → (k < length offsets) × (slice_index offsets k ≡ field_offset_of types fields n k)

@@ -8,5 +8,6 @@ pub mod Progress
 pub mod Refusals
 pub mod Resolved
 pub mod Spelling
+pub mod Starts
 pub mod Tokenisation
 pub mod Tokens

@@ -1,9 +1,14 @@
-ghost use Rattle.std.specs.Prelude.{◌≡◌, ℕ, ◌≤◌, ◌<◌, ◌↔◌, min, map, take, length, slice_get, slice_index, IsTrue};
-ghost use Rattle.ir_core.specs.Layout.{layout_size, layout_align, layout_at, field_start, fields_layout, capped, exact_layouts, has_size_of, alloc_size_of, store_size_of, field_offset_of, IsField};
+ghost use Rattle.std.specs.Prelude.{◌≡◌, ℕ, ◌≤◌, ◌<◌, ◌↔◌, min, map, take, length, slice_get, slice_index, IsTrue, IfOk};
+ghost use Rattle.ir_core.specs.Layout.{layout_size, layout_align, layout_at, field_start, fields_layout, capped, exact_layouts, has_size_of, alloc_size_of, store_size_of, field_offset_of, IsField, AreFieldOffsets};
+ghost use Rattle.ir_core.specs.Starts.{AreStarts};
 ghost use Rattle.ir_core.specs.Resolved.{HasLayouts, IsFitting};
 
-use crate::type_layouts::{field_start, field_types, fields_layout, int_store_size, layout_at};
+use crate::type_layouts::{
+    field_start, field_types, fields_layout, int_store_size, layout_at, with_field,
+};
 use crate::{IrType, Module, TypeLayout};
+use hw_base::OutOfMemory;
+use std::alloc::Global;
 
 /// The bytes that a layout says, 0 where it says none.
 fn layout_size(layout: TypeLayout) -> u64
@@ -33,6 +38,32 @@ fn offset_in(packed: bool, layouts: &[TypeLayout], types: &[u32], k: usize) -> u
     let before = layout_size(fields_layout(packed, layouts, &types[..k]));
     let align = layout_align(layout_at(layouts, types[k] as usize));
     field_start(packed, before, align)
+}
+
+/// Where a field begins behind those of a struct so far.
+fn start_behind(packed: bool, so_far: TypeLayout, field: TypeLayout) -> u64
+    ensures { result ≡ min (field_start packed (layout_size so_far) (layout_align field)) u64.MAX }
+{
+    field_start(packed, layout_size(so_far), layout_align(field))
+}
+
+/// Where each field of a struct begins, by the layouts and the numbers of its fields' types.
+fn offsets_in(
+    alloc: Global,
+    packed: bool,
+    layouts: &[TypeLayout],
+    types: &[u32],
+) -> Result<Vec<u64>, OutOfMemory>
+    ensures { IfOk result (λ starts. AreStarts packed layouts.now types.now (length types.now) starts.items) }
+{
+    let mut starts = Vec::new(alloc);
+    let mut so_far = TypeLayout::Known { size: 0, align: 1 };
+    for ty in types {
+        let field = layout_at(layouts, *ty as usize);
+        starts.push(start_behind(packed, so_far, field))?;
+        so_far = with_field(packed, so_far, field);
+    }
+    Ok(starts)
 }
 
 impl Module {
@@ -108,6 +139,29 @@ impl Module {
                 offset_in(packed, self.layouts.as_slice(), types, field as usize)
             }
             _ => 0,
+        }
+    }
+
+    /// How many bytes behind the start of a struct each of its fields begins, in order. The type has a size of at most 2^40
+    /// bytes; the list is empty where it is no struct. The only error is want of memory. The time is in proportion to the
+    /// fields.
+    pub fn field_offsets(&self, alloc: Global, ty: u32) -> Result<Vec<u64>, OutOfMemory>
+        requires layouts { HasLayouts self.now }
+        requires fits { IsFitting self.now ty }
+        ensures { IfOk result (λ offsets. AreFieldOffsets self.now.types self.now.fields ty offsets.items) }
+    {
+        match self.types.get(ty as u64) {
+            Some(
+                IrType::Struct {
+                    first,
+                    count,
+                    packed,
+                },
+            ) => {
+                let types = field_types(self.fields.as_slice(), first, count);
+                offsets_in(alloc, packed, self.layouts.as_slice(), types)
+            }
+            _ => Ok(Vec::new(alloc)),
         }
     }
 }

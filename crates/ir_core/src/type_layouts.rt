@@ -86,7 +86,7 @@ pub fn field_start(packed: bool, at: u64, align: u32) -> u64
 }
 
 /// One more field behind those of a struct so far.
-fn with_field(packed: bool, so_far: TypeLayout, field: TypeLayout) -> TypeLayout
+pub fn with_field(packed: bool, so_far: TypeLayout, field: TypeLayout) -> TypeLayout
     ensures { result ≡ capped (with_field packed so_far field) }
 {
     match so_far {

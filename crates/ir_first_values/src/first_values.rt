@@ -34,7 +34,7 @@ fn text_has_bytes(text: &[u8])
 impl<'a> Initializers<'a> {
     /// The first value of a variable of a type, by the number of the type in the module and that of its initializer among
     /// the spelled constants. Bytes of no piece are 0. The only error is want of memory. The time is in proportion to the
-    /// initializer, but for structs, where it is in proportion to the square of the number of fields.
+    /// initializer, and to the fields of the structs into which its `getelementptr`s step.
     pub fn first_value(
         &self,
         alloc: Global,

@@ -1,11 +1,13 @@
-ghost use Rattle.std.specs.Prelude.{◌≡◌, ◌*◌, ◌^◌, ◌<◌, ◌≤◌, length, slice_get, IfSome, Some};
+ghost use Rattle.std.specs.Prelude.{◌≡◌, ◌*◌, ◌^◌, ◌<◌, ◌≤◌, length, slice_get, IfSome, IfOk, Some};
 ghost use Rattle.ir_core.specs.declared.types.IrType.TheVariants.{Struct};
 ghost use Rattle.ir_core.specs.Layout.{field_types, field_offset_of, IsField};
 ghost use Rattle.ir_core.specs.Resolved.{HasLayouts};
-ghost use Rattle.ir_first_values.specs.Tables.{tables_of, type_at, counted_offset, counted_size, field_part, part_of, is_array_of, is_struct_of};
+ghost use Rattle.ir_first_values.specs.Tables.{tables_of, type_at, counted_offset, counted_size, field_part, part_of, AreOffsets, is_array_of, is_struct_of};
 
 use crate::Initializers;
-use ir_core::IrType;
+use hw_base::OutOfMemory;
+use ir_core::{field_types, IrType};
+use std::alloc::Global;
 
 /// 2^40 bytes: the size of a type above which a module is refused.
 const GREATEST_SIZE: u64 = 0x100_0000_0000;
@@ -15,17 +17,6 @@ const GREATEST_SIZE: u64 = 0x100_0000_0000;
 pub(crate) struct TypePart {
     pub ty: u32,
     pub offset: u64,
-}
-
-/// The numbers of a struct's field types.
-fn field_types(fields: &[u32], first: u32, count: u32) -> &[u32]
-    ensures value { result.now ≡ field_types fields.now first count }
-    ensures bound { length result.now ≤ count }
-{
-    let from = fields.len().min(first as usize);
-    let rest = &fields[from..];
-    let to = rest.len().min(count as usize);
-    &rest[..to]
 }
 
 /// Whether a type is an array of so many items.
@@ -113,6 +104,55 @@ impl<'a> Initializers<'a> {
                 }
             }
             _ => None,
+        }
+    }
+
+    /// Where each field of a type begins, if it is a struct of at most 2^40 bytes. The time is in proportion to the fields.
+    pub(crate) fn field_offsets(&self, alloc: Global, ty: u32) -> Result<Vec<u64>, OutOfMemory>
+        requires { HasLayouts self.now.module.now }
+        ensures { IfOk result (λ offsets. AreOffsets (tables_of self.now) ty offsets.items) }
+    {
+        if self.is_fitting(ty) {
+            self.module.field_offsets(alloc, ty)
+        } else {
+            Ok(Vec::new(alloc))
+        }
+    }
+
+    /// Where field number k of a struct begins, by the offsets of all its fields.
+    fn known_offset(&self, ty: u32, k: usize, offsets: &[u64]) -> u64
+        requires layouts { HasLayouts self.now.module.now }
+        requires offsets { AreOffsets (tables_of self.now) ty offsets.now }
+        requires is_field { IsField (tables_of self.now).fields (type_at (tables_of self.now) ty) k }
+        ensures { result ≡ counted_offset (tables_of self.now) ty (field_offset_of (tables_of self.now).types (tables_of self.now).fields ty k) }
+    {
+        if self.is_fitting(ty) {
+            self.counted_offset(ty, offsets[k])
+        } else {
+            0
+        }
+    }
+
+    /// Part number k of a type, by the offsets of all its fields, if it is a struct.
+    pub(crate) fn element_part(&self, ty: u32, k: usize, offsets: &[u64]) -> Option<TypePart>
+        requires layouts { HasLayouts self.now.module.now }
+        requires offsets { AreOffsets (tables_of self.now) ty offsets.now }
+        ensures value { result ≡ part_of (tables_of self.now) ty k }
+        ensures bound { IfSome result (λ part. part.offset ≤ 2 ^ 40) }
+    {
+        match self.type_at(ty) {
+            Some(IrType::Struct { first, count, .. }) => {
+                let types = field_types(self.module.fields.as_slice(), first, count);
+                if k < types.len() {
+                    Some(TypePart {
+                        ty: types[k],
+                        offset: self.known_offset(ty, k, offsets),
+                    })
+                } else {
+                    None
+                }
+            }
+            _ => self.part_of(ty, k),
         }
     }
 }

@@ -269,8 +269,9 @@ impl<'a> Initializers<'a> {
         requires room { at + (levels + 1) * 2 ^ 40 ≤ 2 ^ 63 }
         ensures { Puts result parts.old parts.new (elements_value (tables_of self.now) (first_value levels (tables_of self.now)) ty at 0 elements.now) }
     {
+        let offsets = self.field_offsets(alloc, ty)?;
         for (k, element) in elements.iter().enumerate() {
-            let part = self.part_of(ty, k);
+            let part = self.element_part(ty, k, offsets.as_slice());
             match self.put_element(alloc, parts, levels, at, *element, part) {
                 Ok(()) => {}
                 Err(why) => return Err(why),
