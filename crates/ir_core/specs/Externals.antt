@@ -1,7 +1,7 @@
 -- The names of the functions that a module may declare and call without defining them: those of the C library and of
 -- POSIX threads (ISO C, "Library"; POSIX, "pthread.h"), and the intrinsics of LLVM (LLVM Language Reference, "Intrinsic
 -- Functions"). Which of them there are is this project's choice.
-use Rattle.std.specs.Prelude.{ℕ, List, [], ◌++◌, ◌≡◌, ◌≤◌, ◌%◌, codes, decimal}
+use Rattle.std.specs.Prelude.{ℕ, List, [], ◌++◌, ◌≡◌, ◌≢◌, Option, MatchOption, ◌≤◌, ◌%◌, codes, decimal}
 use Rattle.hw_base.specs.declared.operators.BitOp.{BitOp}
 use Rattle.hw_base.specs.declared.operators.BitOp.TheVariants.{BSwap, CtPop, CtLz, CtTz, FShl, FShr, SMin, SMax, UMin, UMax, Abs, Expect}
 use Rattle.hw_base.specs.declared.operators.OverOp.TheVariants.{SAdd, UAdd, SSub, USub, SMul, UMul}
@@ -87,3 +87,7 @@ abbrev pub family : Lib → Lib
 family (Bits op width) = Bits op 0
 family (Overflow op width) = Overflow op 0
 family other = other
+
+-- a name means this function, or none where it is the name of none
+abbrev pub IsExternal : List ℕ → Option Lib → Type 0
+IsExternal name found = MatchOption found ((lib : Lib) → IsThere lib → lib_name lib ≢ name) (λ lib. IsThere lib × (lib_name lib ≡ name))

@@ -1,5 +1,5 @@
 ghost use Rattle.std.specs.Prelude.{◌≡◌, ◌≢◌, ℕ, ◌≤◌, ◌<◌, ◌++◌, ◌↔◌, IsTrue, MatchOption, List, length, decimal};
-ghost use Rattle.ir_core.specs.Externals.{name_stem, width_text, lib_name, IsWidth, IsThere, HasPairs, family};
+ghost use Rattle.ir_core.specs.Externals.{IsExternal, name_stem, width_text, lib_name, IsWidth, IsThere, HasPairs, family};
 
 use crate::Lib;
 use hw_base::{BitOp, OverOp};
@@ -111,7 +111,7 @@ const FAMILIES: [Lib; 45] = [
 /// bits, in decimal without leading zeros; a byte swap has a multiple of 16 bits (LLVM Language Reference, "Intrinsic
 /// Functions").
 pub fn external(name: &[u8]) -> Option<Lib>
-    ensures { MatchOption result ((lib : Lib) → IsThere lib → lib_name lib ≢ name.now) (λ lib. IsThere lib × (lib_name lib ≡ name.now)) }
+    ensures { IsExternal name.now result }
 {
     for known in FAMILIES {
         match member(known, name) {

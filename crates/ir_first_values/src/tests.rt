@@ -33,6 +33,8 @@ const BYTES: u32 = 8;
 const I64: u32 = 9;
 
 const VOID: u32 = 10;
+/// [2 x i8]
+const SHORT: u32 = 11;
 
 /// A module with the types above.
 fn small_module(alloc: Global) -> Result<Module, OutOfMemory>
@@ -62,6 +64,7 @@ fn small_module(alloc: Global) -> Result<Module, OutOfMemory>
         IrType::Array { count: 3, item: I8 },
         IrType::Int(64),
         IrType::Void,
+        IrType::Array { count: 2, item: I8 },
     ] {
         types.push(ty)?;
     }
@@ -174,8 +177,8 @@ fn check_rows(
         module: &module,
         found,
         source: b" c\"hi\\00\" ".as_slice(),
-        numbers: &[0, 1, 2, 3, 4, 5, 6, 7, 8, 9, 10],
-        classes: &[0, 1, 2, 3, 4, 5, 6, 7, 8, 9, 10],
+        numbers: &[0, 1, 2, 3, 4, 5, 6, 7, 8, 9, 10, 11],
+        classes: &[0, 1, 2, 3, 4, 5, 6, 7, 8, 9, 10, 11],
         variables: &[Some(3), None],
     };
     for (ty, constant, want) in rows {
@@ -228,6 +231,7 @@ fn single_constants_fit_the_types_that_they_are_values_of(rt: HostRuntime) -> Re
         (VOID, 10, "-"),
         (BYTES, 11, "0:1=104 1:1=105 2:1=0 "),
         (PAIRS, 11, "-"),
+        (SHORT, 11, "-"),
         (I1, 2, "0:1=1 "),
         (I1, 3, "-"),
         (I128, 12, "0:16=340282366920938463463374607431768211455 "),
@@ -263,6 +267,11 @@ fn elements_stand_at_the_places_of_their_parts(rt: HostRuntime) -> Result<(), Fa
             packed: false,
         },
         SpelledConstant::Array { first: 7, count: 3 },
+        SpelledConstant::Zero,
+        SpelledConstant::Array {
+            first: 10,
+            count: 2,
+        },
     ] {
         found.constants.push(constant)?;
     }
@@ -277,6 +286,8 @@ fn elements_stand_at_the_places_of_their_parts(rt: HostRuntime) -> Result<(), Fa
         element(I8, 1),
         element(I8, 2),
         element(I32, 1),
+        element(PAIR, 10),
+        element(PAIR, 3),
     ] {
         found.elements.push(typed)?;
     }
@@ -291,6 +302,7 @@ fn elements_stand_at_the_places_of_their_parts(rt: HostRuntime) -> Result<(), Fa
         (PAIR, 8, "-"),
         (BYTES, 9, "-"),
         (PAIR, 7, "-"),
+        (PAIRS, 11, "8:1=7 12:4=4294967294 "),
     ];
     check_rows(&rt, rt.alloc(), &found, rows.as_slice())
 }

@@ -1,6 +1,6 @@
 -- The first of faults: that it is one of them, that none comes before it, and faults in several parts.
-use Rattle.std.proofs.Common.{◌≡◌, ℕ, zero, suc, ◌<◌, List, [], ◌∷◌, ◌++◌, length, get_or, Bool, true, false, cond, ◌⊎◌, inl, inr, Option, Some, None, arith, refl, sym, ap, ◌∙◌}
-use Rattle.std.specs.List.{All, Contains, fold}
+use Rattle.std.proofs.Common.{◌≡◌, zero, suc, List, [], ◌∷◌, ◌++◌, Bool, true, false, cond, ◌⊎◌, inl, inr, Option, Some, None, arith, refl, ap, ◌∙◌}
+use Rattle.std.specs.List.{All, Contains}
 use Rattle.std.specs.Result.{IfOk}
 use Rattle.std.specs.Prelude.{Result, Ok, Err}
 use Rattle.std.proofs.lemmas.List.Sums.{fold-append}

@@ -3,3 +3,4 @@ pub mod First
 pub mod FirstPlaces
 pub mod Meant
 pub mod Orders
+pub mod Within

@@ -1,5 +1,5 @@
 -- The item that a key means has the key.
-use Rattle.std.proofs.Common.{◌≡◌, ℕ, zero, suc, ◌+◌, ◌≤◌, List, [], ◌∷◌, map, Bool, true, false, cond, eqb, Option, Some, None, arith, refl, sym, ap, ◌∙◌}
+use Rattle.std.proofs.Common.{◌≡◌, ℕ, zero, suc, ◌+◌, ◌≤◌, List, [], ◌∷◌, Bool, true, false, cond, eqb, Option, Some, None, arith, refl, sym, ap, ◌∙◌}
 use Rattle.std.specs.List.{position_from, slice_get}
 use Rattle.std.specs.Str.{bytes_eq}
 use Rattle.std.proofs.lemmas.Slice.Eq.{bytes_eq-Decides}
@@ -59,7 +59,7 @@ type_by_key source token Skipped e = absurd (empty_apart 37 (name_key (behind_si
 type_by_key source token (TypeItem name ty) e = tt
 type_by_key source token (Global name constant ty value) e = absurd (apart 64 37 _ (name_key (behind_sigil source token)) refl e)
 type_by_key source token Used e = absurd (empty_apart 37 (name_key (behind_sigil source token)) e)
-type_by_key source token (Declare name res first count) e = absurd (apart 64 37 _ (name_key (behind_sigil source token)) refl e)
+type_by_key source token (Declare name result first count) e = absurd (apart 64 37 _ (name_key (behind_sigil source token)) refl e)
 type_by_key source token (Node number) e = absurd (apart 35 37 _ (name_key (behind_sigil source token)) refl e)
 type_by_key source token (NodeList name) e = absurd (apart 33 37 _ (name_key (behind_sigil source token)) refl e)
 
@@ -68,6 +68,6 @@ global_by_key source token Skipped e = absurd (empty_apart 64 (name_key (behind_
 global_by_key source token (TypeItem name ty) e = absurd (apart 37 64 _ (name_key (behind_sigil source token)) refl e)
 global_by_key source token (Global name constant ty value) e = tt
 global_by_key source token Used e = absurd (empty_apart 64 (name_key (behind_sigil source token)) e)
-global_by_key source token (Declare name res first count) e = tt
+global_by_key source token (Declare name result first count) e = tt
 global_by_key source token (Node number) e = absurd (apart 35 64 _ (name_key (behind_sigil source token)) refl e)
 global_by_key source token (NodeList name) e = absurd (apart 33 64 _ (name_key (behind_sigil source token)) refl e)

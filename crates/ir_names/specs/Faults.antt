@@ -45,14 +45,14 @@ item_name Skipped = None
 item_name (TypeItem name ty) = Some name
 item_name (Global name constant ty value) = Some name
 item_name Used = None
-item_name (Declare name res first count) = Some name
+item_name (Declare name result first count) = Some name
 item_name (Node number) = Some number
 item_name (NodeList name) = Some name
 
 -- the item is a global variable or a function by the name of the list of constructors
 abbrev pub is_constructors : List ℕ → SpelledItem → Bool
 is_constructors source (Global name constant ty value) = is_constructor_list (bytes_of source name)
-is_constructors source (Declare name res first count) = is_constructor_list (bytes_of source name)
+is_constructors source (Declare name result first count) = is_constructor_list (bytes_of source name)
 is_constructors source other = false
 
 -- the faults at an item's own name: an earlier item has it, or nothing may have it
@@ -110,7 +110,7 @@ parameter_list_faults source parameters = parameters_faults source (parameter_ke
 
 -- the faults at the names of an item's parameters
 abbrev pub declare_faults : List ℕ → List SpelledParameter → SpelledItem → List NameFault
-declare_faults source parameters (Declare name res first count) = parameter_list_faults source (take count (drop first parameters))
+declare_faults source parameters (Declare name result first count) = parameter_list_faults source (take count (drop first parameters))
 declare_faults source parameters other = []
 
 -- the fault at a type: no item defines its name
@@ -121,7 +121,7 @@ type_faults source keys items other = []
 -- the fault at a global's name that means this item: it is there, and no function
 abbrev pub meaning_faults : Token → Option SpelledItem → List NameFault
 meaning_faults token None = fault_at Unknown token
-meaning_faults token (Some (Declare name res first count)) = fault_at Unsupported token
+meaning_faults token (Some (Declare name result first count)) = fault_at Unsupported token
 meaning_faults token (Some other) = []
 
 -- the faults at a constant: it is a local, or a global's name that can't stand there

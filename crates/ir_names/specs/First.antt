@@ -1,6 +1,6 @@
 -- Which of several faults is told: the one whose token begins first in the text, and at one place the one with the lower
 -- code. This project's choice.
-use Rattle.std.specs.Prelude.{ℕ, List, fold, Bool, ◌&&◌, ◌||◌, ◌==◌, nat_lt, if◌then◌else◌, Option, None, Some}
+use Rattle.std.specs.Prelude.{List, fold, Bool, ◌&&◌, ◌||◌, ◌==◌, nat_lt, if◌then◌else◌, Option, None, Some}
 use Rattle.ir_core.specs.Faults.{fault_number}
 use Rattle.ir_names.specs.declared.fault.NameFault.{NameFault}
 

@@ -36,7 +36,7 @@ item_key source Skipped = []
 item_key source (TypeItem name ty) = type_key source name
 item_key source (Global name constant ty value) = global_key source name
 item_key source Used = []
-item_key source (Declare name res first count) = global_key source name
+item_key source (Declare name result first count) = global_key source name
 item_key source (Node number) = node_key source number
 item_key source (NodeList name) = list_key source name
 

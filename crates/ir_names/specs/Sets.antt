@@ -1,4 +1,6 @@
--- Which items define names of which set.
+-- Which items define names of which set, and which are global variables.
+use Rattle.std.specs.Prelude.{List, Bool, true, false}
+use Rattle.std.specs.List.{filter}
 use Rattle.ir_grammar.specs.declared.spelled.SpelledItem.{SpelledItem}
 use Rattle.ir_grammar.specs.declared.spelled.SpelledItem.TheVariants.{«Type» as TypeItem, Global, Declare}
 
@@ -10,5 +12,14 @@ DefinesType other = ⊥
 -- the item defines a global variable or declares a function
 abbrev pub DefinesGlobal : SpelledItem → Type 0
 DefinesGlobal (Global name constant ty value) = Unit {0}
-DefinesGlobal (Declare name res first count) = Unit {0}
+DefinesGlobal (Declare name result first count) = Unit {0}
 DefinesGlobal other = ⊥
+
+-- the item is a global variable
+abbrev pub is_variable : SpelledItem → Bool
+is_variable (Global name constant ty value) = true
+is_variable other = false
+
+-- the global variables among items
+abbrev pub variables_in : List SpelledItem → List SpelledItem
+variables_in items = filter is_variable items

@@ -1,10 +1,13 @@
-ghost use Rattle.std.specs.Prelude.{◌≡◌, ℕ, List, [], All, Contains, Some, None, false};
+ghost use Rattle.std.specs.Prelude.{◌≡◌, ℕ, ◌<◌, List, [], length, All, Contains, Some, None, IfSome, false};
 ghost use Rattle.ir_core.specs.declared.token.Token.{Token};
 ghost use Rattle.ir_grammar.specs.declared.spelled.SpelledItem.{SpelledItem};
+ghost use Rattle.ir_grammar.specs.Spelled.{Store};
+ghost use Rattle.ir_grammar.specs.SoundStore.{counts_of, IsSoundItem};
 ghost use Rattle.ir_names.specs.declared.fault.NameFault.{NameFault};
 ghost use Rattle.ir_names.specs.First.{first_fault, is_before};
 ghost use Rattle.ir_names.specs.Keys.{type_key, global_key, item_key, item_keys, meant};
-ghost use Rattle.ir_names.specs.Sets.{DefinesType, DefinesGlobal};
+ghost use Rattle.ir_names.specs.Meanings.{leads_of, variables_of};
+ghost use Rattle.ir_names.specs.Sets.{DefinesType, DefinesGlobal, variables_in};
 
 /// The first fault is one of the faults, none of them comes before it, and there is one wherever there are faults.
 pub fn the_first_fault_is_before_all_others()
@@ -19,4 +22,15 @@ pub fn a_name_means_what_has_it()
     ensures key { (source key : List ℕ) (items : List SpelledItem) (item : SpelledItem) → meant (item_keys source items) items key ≡ Some item → item_key source item ≡ key }
     ensures types { (source : List ℕ) (items : List SpelledItem) (token : Token) (item : SpelledItem) → meant (item_keys source items) items (type_key source token) ≡ Some item → DefinesType item }
     ensures globals { (source : List ℕ) (items : List SpelledItem) (token : Token) (item : SpelledItem) → meant (item_keys source items) items (global_key source token) ≡ Some item → DefinesGlobal item }
+{}
+
+/// What names stand for is there, for items whose own numbers name what is there: one type a spelled type, and one number of
+/// a variable, or none, a constant.
+pub fn what_names_stand_for_is_there()
+    ensures one_a_type { (source : List ℕ) (items : List SpelledItem) (store : Store) → length (leads_of source items store) ≡ length store.types }
+    ensures leads { (source : List ℕ) (items : List SpelledItem) (store : Store) → All (IsSoundItem (counts_of store)) items
+        → All (λ n. n < length store.types) (leads_of source items store) }
+    ensures one_a_constant { (source : List ℕ) (items : List SpelledItem) (store : Store) → length (variables_of source items store) ≡ length store.constants }
+    ensures variables { (source : List ℕ) (items : List SpelledItem) (store : Store)
+        → All (λ v. IfSome v (λ n. n < length (variables_in items))) (variables_of source items store) }
 {}

@@ -17,7 +17,9 @@ mod resolve;
 mod types;
 
 pub use fault::{NameFault, NamesError};
-pub use laws::{a_name_means_what_has_it, the_first_fault_is_before_all_others};
+pub use laws::{
+    a_name_means_what_has_it, the_first_fault_is_before_all_others, what_names_stand_for_is_there,
+};
 pub use references::References;
 pub use resolve::resolve_names;
 

@@ -1,12 +1,12 @@
 -- Classes given one type at a time, and that all types with layouts get one.
-use Rattle.std.proofs.Common.{◌≡◌, ℕ, ◌+◌, ◌<◌, zero, suc, Bool, true, ◌==◌, cond, List, [], ◌∷◌, ◌++◌, map, set, length, get_or, Option, Some, All, arith, refl, sym, ◌∙◌, ap, inl, inr, subst}
+use Rattle.std.proofs.Common.{◌≡◌, ℕ, ◌+◌, ◌-◌, ◌<◌, ◌≤◌, zero, suc, Bool, true, ◌==◌, cond, List, [], ◌∷◌, ◌++◌, map, set, length, get_or, Option, Some, All, arith, refl, sym, ◌∙◌, ap, inl, inr, subst}
 use Rattle.std.proofs.lemmas.Bool.{cases_eq, cases_Bool, eqb-true}
 use Rattle.std.proofs.lemmas.List.{get_or-set_same, get_or-set_other}
 use Rattle.std.proofs.lemmas.List.Elements.{All-head, All-tail, All-weaker}
-use Rattle.std.proofs.lemmas.List.Sums.{sum_by-set}
+use Rattle.std.proofs.lemmas.List.Sums.{sum_by-set, count_by-le-length}
 use Rattle.std.proofs.Math.ListN.{length-set}
 use Rattle.ir_core.proofs.Capping.{layout_at-capped}
-use Rattle.ir_core.proofs.Deepening.{IsLaid, is_loop-capped, parts_laid, nothing_at_first, length-within, laid_is_within, within_more}
+use Rattle.ir_core.proofs.Deepening.{IsLaid, is_loop-capped, parts_laid, laid_parts, deeper, deeper_to, nothing_at_first, length-within, laid_is_within, within_more}
 use Rattle.ir_core.specs.Layout.{layout_at, layouts_within, exact_layouts, type_layout}
 use Rattle.ir_core.specs.Progress.{is_loop, type_at}
 use Rattle.ir_core.specs.declared.types.IrType.{IrType}
@@ -39,7 +39,34 @@ classing_first types fields named longer classes same none once = record {
   numbering = once;
   right = λ n known. absurd (known (none n));
   parts = λ n known. absurd (known (none n));
+  deep = λ n known. absurd (known (none n));
 }
+
+-- a class that was given is not 0
+pub class_positive : (types : List IrType) (fields : List ℕ) (named : List Bool) (longer : ℕ → Letter → Option ℕ) (classes : List ℕ) (n class : ℕ) → IsNumbering longer → word_number longer (shape_at types fields named classes n) ≡ Some class → 0 < class
+class_positive types fields named longer classes n class once found =
+    word_positive longer once (map (part_letter classes) (held fields (type_at types n))) (kind (is_named named n) n (type_at types n)) class found
+
+-- one fewer is without a class
+unclassed_set : (classes : List ℕ) (n class : ℕ) → n < length classes → number_at classes n ≡ 0 → 0 < class → unclassed (set classes n class) + 1 ≡ unclassed classes
+unclassed_set classes n class h none more =
+    let f : ℕ → ℕ = λ x. cond (x == 0) 1 0 in
+    let e : unclassed (set classes n class) + f (get_or classes n 0) ≡ unclassed classes + f class = sum_by-set f classes n class 0 h in
+    let old : f (get_or classes n 0) ≡ 1 = ap f none in
+    let new : f class ≡ 0 = elim (cases_Bool (class == 0)) [
+      | inl zero_is ↦ let no_class : class ≡ 0 = eqb-true class 0 zero_is in absurd (omega (arith, more, no_class))
+      | inr other ↦ ap (λ b. cond b 1 0) other
+    ] in
+    omega (arith, e, old, new)
+
+pub unclassed_less : (classes : List ℕ) (n class : ℕ) → n < length classes → number_at classes n ≡ 0 → 0 < class → unclassed (set classes n class) < unclassed classes
+unclassed_less classes n class h none more = let e = unclassed_set classes n class h none more in omega (arith, e)
+
+-- a type whose parts are laid out so many deep is so one deeper
+laid_more : (types : List IrType) (fields : List ℕ) (k n : ℕ) → n < length types → All (IsLaid (layouts_within types fields k)) (held fields (type_at types n)) → IsLaid (layouts_within types fields (suc k)) n
+laid_more types fields k n h all =
+    let t : IrType = type_at types n in
+    ap is_loop (within_more types fields k n h) ∙ laid_parts fields (layouts_within types fields k) t all
 
 -- one more type gets its class
 pub classing_more : (types : List IrType) (fields : List ℕ) (named : List Bool) (before after : ℕ → Letter → Option ℕ) (classes : List ℕ) (n class : ℕ)
@@ -57,6 +84,11 @@ classing_more types fields named before after classes n class was h none all fou
     let stays : (m : ℕ) → IsClassed classes m → IsClassed new m = λ m known z. known (sym (same m known) ∙ z) in
     let shapes : (m : ℕ) → All (IsClassed classes) (held fields (type_at types m)) → shape_at types fields named new m ≡ shape_at types fields named classes m = λ m known.
     shape_same fields new classes (is_named named m) m (type_at types m) (All-weaker (IsClassed classes) (Same new classes) same (held fields (type_at types m)) known) in
+    let fewer : unclassed new + 1 ≡ unclassed classes = unclassed_set classes n class inside none (class_positive types fields named after classes n class once found) in
+    let few : unclassed classes ≤ length classes = count_by-le-length (λ c. c == 0) classes in
+    let long : length classes ≡ length types = was.same in
+    let before_depth : ℕ = length types - unclassed classes in
+    let depth : length types - unclassed new ≡ suc before_depth = omega (arith, fewer, few, long) in
     let at_n : word_number after (shape_at types fields named new n) ≡ Some (number_at new n) = ap (word_number after) (shapes n all) ∙ (found ∙ ap Some (sym here)) in
     record {
       same = length-set classes n class ∙ was.same;
@@ -77,24 +109,16 @@ classing_more types fields named before after classes n class was h none all fou
                 let old : IsClassed classes m = λ z. known (other ∙ z) in
                 All-weaker (IsClassed classes) (IsClassed new) stays (held fields (type_at types m)) (was.parts m old)
           ];
+      deep = λ m known.
+          subst (λ k. IsLaid (layouts_within types fields k) m) (sym depth)
+          (elim (cases_eq m n) [
+            | inl e ↦ subst (λ k. IsLaid (layouts_within types fields (suc before_depth)) k) (sym e) (laid_more types fields before_depth n h (All-weaker (IsClassed classes) (IsLaid (layouts_within types fields before_depth)) was.deep (held fields (type_at types n)) all))
+            | inr ne ↦
+                let other : number_at new m ≡ number_at classes m = get_or-set_other classes n m class 0 ne in
+                let laid : IsLaid (layouts_within types fields before_depth) m = was.deep m (λ z. known (other ∙ z)) in
+                ap is_loop (deeper types fields before_depth m laid) ∙ laid
+          ]);
     }
-
--- and it is no more without one
-pub unclassed_less : (classes : List ℕ) (n class : ℕ) → n < length classes → number_at classes n ≡ 0 → 0 < class → unclassed (set classes n class) < unclassed classes
-unclassed_less classes n class h none more =
-    let f : ℕ → ℕ = λ x. cond (x == 0) 1 0 in
-    let e : unclassed (set classes n class) + f (get_or classes n 0) ≡ unclassed classes + f class = sum_by-set f classes n class 0 h in
-    let old : f (get_or classes n 0) ≡ 1 = ap f none in
-    let new : f class ≡ 0 = elim (cases_Bool (class == 0)) [
-      | inl zero_is ↦ let no_class : class ≡ 0 = eqb-true class 0 zero_is in absurd (omega (arith, more, no_class))
-      | inr other ↦ ap (λ b. cond b 1 0) other
-    ] in
-    omega (arith, e, old, new)
-
--- a class that was given is not 0
-pub class_positive : (types : List IrType) (fields : List ℕ) (named : List Bool) (longer : ℕ → Letter → Option ℕ) (classes : List ℕ) (n class : ℕ) → IsNumbering longer → word_number longer (shape_at types fields named classes n) ≡ Some class → 0 < class
-class_positive types fields named longer classes n class once found =
-    word_positive longer once (map (part_letter classes) (held fields (type_at types n))) (kind (is_named named n) n (type_at types n)) class found
 
 -- a type that is laid out so many deep stands in the list, and its parts are laid out less deep
 pub laid_within : (types : List IrType) (fields : List ℕ) (k n : ℕ) → IsLaid (layouts_within types fields (suc k)) n → (n < length types) × All (IsLaid (layouts_within types fields k)) (held fields (type_at types n))
@@ -119,3 +143,11 @@ pub laid_out : (types : List IrType) (fields : List ℕ) (n : ℕ) → HasLayout
 laid_out types fields n h =
     let exact : List TypeLayout = exact_layouts types fields in
     sym (is_loop-capped (layout_at exact n)) ∙ (ap is_loop (sym (layout_at-capped exact n)) ∙ h)
+
+-- and only those with a layout have a class
+pub has_layout : (types : List IrType) (fields : List ℕ) (named : List Bool) (longer : ℕ → Letter → Option ℕ) (classes : List ℕ) (n : ℕ) → IsClassing types fields named longer classes → IsClassed classes n → HasLayout types fields n
+has_layout types fields named longer classes n c known =
+    let exact : List TypeLayout = exact_layouts types fields in
+    let most : length types - unclassed classes ≤ length types = omega arith in
+    let laid : IsLaid exact n = ap is_loop (deeper_to types fields (length types - unclassed classes) n (length types) most (c.deep n known)) ∙ c.deep n known in
+    ap is_loop (layout_at-capped exact n) ∙ (is_loop-capped (layout_at exact n) ∙ laid)

@@ -105,8 +105,8 @@ pub name_of_no_type : (types : List SpelledType) (leads fields : List ℕ) (n : 
 name_of_no_type types leads fields n name named itself =
     let numbers : List ℕ = stands_for types leads in
     let entries : List IrType = module_types types numbers in
-    let h : n < length numbers = subst (λ m. n < m) (sym (stands_within types leads)) (slice_get_within types n (spelled.Named name) named) in
-    let entry : type_at entries n ≡ module_type numbers (number_at numbers n) (slice_get types (number_at numbers n)) = get_or-map (λ m. module_type numbers m (slice_get types m)) numbers n 0 Void h in
-    let is : type_at entries n ≡ Array 1 n = entry ∙ (ap (λ m. module_type numbers m (slice_get types m)) itself ∙ ap (module_type numbers n) named) in
-    let inside : n < length entries = subst (λ m. n < m) (sym (length-map numbers (λ m. module_type numbers m (slice_get types m)))) h in
+    let h : n < length types = slice_get_within types n (spelled.Named name) named in
+    let entry : type_at entries n ≡ module_type numbers n (slice_get types n) = get_or-map-range_with_len (λ m. module_type numbers m (slice_get types m)) 0 (length types) n n Void h (omega arith) in
+    let is : type_at entries n ≡ Array 1 n = entry ∙ (ap (module_type numbers n) named ∙ ap (Array 1) itself) in
+    let inside : n < length entries = subst (λ m. n < m) (sym (length-map-range_with_len (λ m. module_type numbers m (slice_get types m)) 0 (length types))) h in
     layout_at-capped (exact_layouts entries fields) n ∙ ap capped (never_laid entries fields (length entries) n inside is)

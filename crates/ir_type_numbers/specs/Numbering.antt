@@ -48,10 +48,11 @@ abbrev pub stands_for : List SpelledType → List ℕ → List ℕ
 stands_for types leads = map (λ n. led_to types n (number_at (far_leads leads) n)) (range_with_len 0 (length types))
 
 -- the module's type for the spelled type with a number, by what all types stand for. `metadata` is kept as an opaque
--- type. A name that stands for itself is an array of one item, itself: a type that holds itself
+-- type. A name is an array of one item, the type that it stands for, and is laid out like it; one that stands for itself
+-- holds itself
 abbrev pub module_type : List ℕ → ℕ → Option SpelledType → IrType
-module_type numbers own None = Array 1 own
-module_type numbers own (Some (spelled.Named name)) = Array 1 own
+module_type numbers own None = Opaque
+module_type numbers own (Some (spelled.Named name)) = Array 1 (number_at numbers own)
 module_type numbers own (Some spelled.Void) = Void
 module_type numbers own (Some spelled.Ptr) = Ptr
 module_type numbers own (Some (spelled.Int width)) = Int width
@@ -60,9 +61,9 @@ module_type numbers own (Some spelled.Metadata) = Opaque
 module_type numbers own (Some (spelled.Array count item)) = Array count (number_at numbers item)
 module_type numbers own (Some (spelled.Struct first count packed)) = Struct first count packed
 
--- the module's types: each entry is the type that the spelled type with its number stands for
+-- the module's types: one entry a spelled type, in order
 abbrev pub module_types : List SpelledType → List ℕ → List IrType
-module_types types numbers = map (λ n. module_type numbers n (slice_get types n)) numbers
+module_types types numbers = map (λ n. module_type numbers n (slice_get types n)) (range_with_len 0 (length types))
 
 -- the module's fields: each the number of what its type stands for
 abbrev pub module_fields : List ℕ → List ℕ → List ℕ

@@ -1,10 +1,11 @@
 -- The shapes of types, as words: one letter for the kind of type, and before it one for each part, the part's class. Equal
 -- words have one number, which is the class.
-use Rattle.std.specs.Prelude.{ℕ, ◌≡◌, ◌≢◌, ◌<◌, Bool, true, false, ◌==◌, List, [], ◌∷◌, ◌++◌, map, length, count_by, Option, Some, None, All}
+use Rattle.std.specs.Prelude.{ℕ, ◌-◌, ◌≡◌, ◌≢◌, ◌<◌, Bool, true, false, ◌==◌, List, [], ◌∷◌, ◌++◌, map, length, count_by, Option, Some, None, All}
 use Rattle.ir_core.specs.declared.types.IrType.{IrType}
 use Rattle.ir_core.specs.declared.types.IrType.TheVariants as types
 use Rattle.ir_core.specs.Holding.{held}
-use Rattle.ir_core.specs.Progress.{type_at}
+use Rattle.ir_core.specs.Layout.{layout_at, layouts_within}
+use Rattle.ir_core.specs.Progress.{is_loop, type_at}
 use Rattle.ir_type_numbers.specs.declared.letter.Letter.{Letter}
 use Rattle.ir_type_numbers.specs.declared.letter.Letter.TheVariants.{Own, Void, Ptr, Int, Pair, Array, Struct, Part}
 use Rattle.ir_type_numbers.specs.Numbering.{number_at}
@@ -64,12 +65,14 @@ IsClassed classes n = number_at classes n ≢ 0
 abbrev pub unclassed : List ℕ → ℕ
 unclassed classes = count_by (λ class. class == 0) classes
 
--- each class is the number of its type's shape, and the type's parts have classes too
+-- each class is the number of its type's shape, and the type's parts have classes too. Each type with a class holds types
+-- at most as many deep as there are types with classes
 pub record IsClassing (types : List IrType) (fields : List ℕ) (named : List Bool) (longer : ℕ → Letter → Option ℕ) (classes : List ℕ) : Type 0 where
   pub same : length classes ≡ length types
   pub numbering : IsNumbering longer
   pub right : (n : ℕ) → IsClassed classes n → word_number longer (shape_at types fields named classes n) ≡ Some (number_at classes n)
   pub parts : (n : ℕ) → IsClassed classes n → All (IsClassed classes) (held fields (type_at types n))
+  pub deep : (n : ℕ) → IsClassed classes n → is_loop (layout_at (layouts_within types fields (length types - unclassed classes)) n) ≡ false
 
 -- a type whose parts have classes has one
 abbrev pub IsClosedAt : List IrType → List ℕ → List ℕ → ℕ → Type 0

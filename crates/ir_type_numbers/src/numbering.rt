@@ -14,7 +14,8 @@ const DOUBLINGS: u32 = 32;
 pub struct NumberedTypes {
     /// One number a spelled type: that of the type that it stands for.
     pub numbers: Vec<u32>,
-    /// One entry a spelled type: the type that it stands for.
+    /// One entry a spelled type. That of a name is an array of one item, the type that it stands for, and no number leads
+    /// to it.
     pub types: TypeList,
     /// The types of the fields of structs, each by the number of the type that it stands for.
     pub fields: TypeIdList,
@@ -22,7 +23,8 @@ pub struct NumberedTypes {
 
 /// Numbers the spelled types. `leads` has one number a type: for a name that of the type in its definition, for any other
 /// type its own. A name stands for the type that it leads to, by however many names; one that leads to no type stands for
-/// itself, and its entry is an array of one item, itself. The time is in proportion to the types and fields.
+/// itself. A name's entry is an array of one item, what it stands for, so that it costs no more to lay out than a name,
+/// however long the type. The time is in proportion to the types and fields.
 pub fn number_types(
     alloc: Global,
     types: &[SpelledType],
@@ -134,14 +136,14 @@ fn module_type(numbers: &[u32], own: u32, ty: Option<SpelledType>) -> IrType
     ensures { result ≡ module_type numbers.now own ty }
 {
     match ty {
-        None | Some(SpelledType::Named(_)) => IrType::Array {
+        Some(SpelledType::Named(_)) => IrType::Array {
             count: 1,
-            item: own,
+            item: number_at(numbers, own as usize),
         },
         Some(SpelledType::Void) => IrType::Void,
         Some(SpelledType::Ptr) => IrType::Ptr,
         Some(SpelledType::Int(width)) => IrType::Int(width as u32),
-        Some(SpelledType::Opaque) | Some(SpelledType::Metadata) => IrType::Opaque,
+        None | Some(SpelledType::Opaque) | Some(SpelledType::Metadata) => IrType::Opaque,
         Some(SpelledType::Array { count, item }) => IrType::Array {
             count: count as u64,
             item: number_at(numbers, item),
@@ -174,12 +176,13 @@ fn module_types(
     types: &[SpelledType],
     numbers: &[u32],
 ) -> Result<Vec<IrType>, OutOfMemory>
-    requires { All FitsModule types.now }
+    requires few { length types.now < 2 ^ 32 }
+    requires fit { All FitsModule types.now }
     ensures { IfOk result (λ entries. entries.items ≡ module_types types.now numbers.now) }
 {
     let mut entries = Vec::new(alloc);
-    for number in numbers {
-        entries.push(entry(types, numbers, *number))?;
+    for own in 0..types.len() as u32 {
+        entries.push(entry(types, numbers, own))?;
     }
     Ok(entries)
 }

@@ -24,7 +24,7 @@ pub fn classes(
     named: &[bool],
 ) -> Result<Vec<u64>, OutOfMemory>
     ensures each { IfOk result (λ classes. length classes.items ≡ length types.now) }
-    ensures some { IfOk result (λ classes. (a : ℕ) → HasLayout types.now fields.now a → number_at classes.items a ≢ 0) }
+    ensures some { IfOk result (λ classes. (a : ℕ) → number_at classes.items a ≢ 0 ↔ HasLayout types.now fields.now a) }
     ensures same { IfOk result (λ classes. (a b : ℕ) → HasLayout types.now fields.now a → HasLayout types.now fields.now b
         → (number_at classes.items a ≡ number_at classes.items b) ↔ IsSame types.now fields.now named.now a b) }
 {

@@ -234,6 +234,18 @@ fn offset(all: &Module, ty: u32, field: u32) -> Option<u64>
 #[test]
 fn fields_begin_where_they_were_worked_out_by_hand(rt: HostRuntime) -> Result<(), Fail> {
     let all = typed(rt.alloc(), &TYPES, &FIELDS)?;
+    if all.fits(15) && all.fits(16) {
+        assert_eq!(rt;
+            all.field_offsets(rt.alloc(), 15)?.as_slice(),
+            [0u64, 1, 5].as_slice()
+        );
+        assert_eq!(rt;
+            all.field_offsets(rt.alloc(), 16)?.as_slice(),
+            [0u64, 4, 16].as_slice()
+        );
+    } else {
+        assert!(rt; false, "the structs fit");
+    }
     for (ty, wanted) in [
         (14, [Some(0), Some(4), Some(8)]),
         (15, [Some(0), Some(1), Some(5)]),

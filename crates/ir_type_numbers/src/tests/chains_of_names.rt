@@ -1,5 +1,5 @@
 use super::*;
-use ir_core::{Place, Token, TokenKind};
+use ir_core::{Place, Token, TokenKind, TypeLayout, layouts};
 
 /// How many names lead to one another.
 const MANY: usize = 100_000;
@@ -55,5 +55,38 @@ fn names_in_a_ring_stand_for_themselves(rt: HostRuntime) -> Result<(), Fail> {
     }
     let given = numbered(&rt, alloc, &types, &[], &leads)?;
     assert_eq!(rt; given.numbers, numbers);
+    Ok(())
+}
+
+#[test]
+fn many_names_of_a_long_struct_cost_no_more_than_their_number(rt: HostRuntime) -> Result<(), Fail> {
+    let alloc = rt.alloc();
+    let mut types = vec![in alloc; SpelledType::Int(8)]?;
+    let mut leads = vec![in alloc; 0]?;
+    types.push(SpelledType::Struct {
+        first: 0,
+        count: MANY,
+        packed: false,
+    })?;
+    leads.push(1)?;
+    let fields = vec![in alloc; 0; MANY]?;
+    for _ in 0..MANY {
+        types.push(NAME)?;
+        leads.push(1)?;
+    }
+    let given = numbered(&rt, alloc, &types, &fields, &leads)?;
+    let sizes = layouts(alloc, &given.types, &given.fields)?;
+    let last = sizes.as_slice().last();
+    assert!(rt;
+        matches!(
+            last,
+            Some(TypeLayout::Known {
+                size: 100_000,
+                align: 1
+            })
+        )
+    );
+    let classes = classes(alloc, &given.types, &given.fields, &[])?;
+    assert_eq!(rt; classes.len(), MANY + 2);
     Ok(())
 }

@@ -34,8 +34,8 @@ fn are_twins(
 fn arrays_of_arrays(rt: HostRuntime) -> Result<(), Fail> {
     let alloc = rt.alloc();
     let mut types = TypeList::new(alloc);
-    for _ in 0..2 {
-        let first = types.len() as u32;
+    for copy in 0..2 {
+        let first = copy * MANY;
         types.push(IrType::Int(8))?;
         for n in 0..MANY - 1 {
             types.push(IrType::Array {
@@ -53,11 +53,11 @@ fn structs_that_hold_one_type_twice(rt: HostRuntime) -> Result<(), Fail> {
     let alloc = rt.alloc();
     let mut types = TypeList::new(alloc);
     let mut fields = TypeIdList::new(alloc);
-    for _ in 0..2 {
-        let first = types.len() as u32;
+    for copy in 0..2 {
+        let first = copy * MANY;
         types.push(IrType::Int(8))?;
         for n in 0..MANY - 1 {
-            types.push(pair(fields.len() as u32))?;
+            types.push(pair(2 * (copy * (MANY - 1) + n)))?;
             fields.push(first + n)?;
             fields.push(first + n)?;
         }
@@ -71,10 +71,10 @@ fn structs_that_hold_the_one_behind_twice(rt: HostRuntime) -> Result<(), Fail> {
     let alloc = rt.alloc();
     let mut types = TypeList::new(alloc);
     let mut fields = TypeIdList::new(alloc);
-    for _ in 0..2 {
-        let first = types.len() as u32;
+    for copy in 0..2 {
+        let first = copy * MANY;
         for n in 0..MANY - 1 {
-            types.push(pair(fields.len() as u32))?;
+            types.push(pair(2 * (copy * (MANY - 1) + n)))?;
             fields.push(first + n + 1)?;
             fields.push(first + n + 1)?;
         }

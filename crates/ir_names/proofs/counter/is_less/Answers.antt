@@ -1,4 +1,4 @@
-use Rattle.std.proofs.Common.{◌≡◌, ◌+◌, ◌-◌, ◌*◌, get_or, arith, sym, ◌∙◌}
+use Rattle.std.proofs.Common.{◌+◌, ◌-◌, ◌*◌, get_or, arith, sym, ◌∙◌}
 use Rattle.ir_names.proofs.Digits.{step_less, step_more, step_same, rest_decimal, rest_lengths}
 use Rattle.ir_names.proofs.counter.is_less.Goals as goal
 

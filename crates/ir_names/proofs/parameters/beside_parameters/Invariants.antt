@@ -1,4 +1,4 @@
-use Rattle.std.proofs.Common.{◌≡◌, ◌≤◌, ◌*◌, ◌+◌, length}
+use Rattle.std.proofs.Common.{◌≡◌, ◌≤◌, ◌+◌, length}
 use Rattle.ir_names.specs.First.{first_beside}
 use Rattle.ir_names.specs.Faults.{parameters_faults}
 use Rattle.ir_names.specs.Numbers.{counter_value}

@@ -6,7 +6,7 @@ use Rattle.ir_grammar.specs.declared.spelled.SpelledType.{SpelledType}
 use Rattle.ir_grammar.specs.declared.spelled.SpelledConstant.{SpelledConstant}
 use Rattle.ir_grammar.specs.declared.spelled.SpelledParameter.{SpelledParameter}
 use Rattle.ir_names.specs.declared.fault.NameFault.{NameFault}
-use Rattle.ir_names.specs.First.{first_beside, first_fault}
+use Rattle.ir_names.specs.First.{first_fault}
 use Rattle.ir_names.specs.Faults.{definitions_faults, declare_faults, type_faults, constant_faults, faults_by}
 use Rattle.ir_names.proofs.First.{in_parts, if_same}
 use Rattle.ir_names.proofs.resolve.first_fault.Goals as goal

@@ -4,7 +4,7 @@ use Rattle.ir_type_numbers.specs.Numbering.{number_at}
 use Rattle.ir_type_numbers.specs.SameTypes.{HasLayout, IsSame}
 use Rattle.ir_type_numbers.specs.Shapes.{IsClassing, IsClosed}
 use Rattle.ir_type_numbers.specs.WordMap.{longer_in}
-use Rattle.ir_type_numbers.proofs.Classing.{complete, laid_out}
+use Rattle.ir_type_numbers.proofs.Classing.{complete, has_layout, laid_out}
 use Rattle.ir_type_numbers.proofs.Sameness.{same_exactly}
 use Rattle.ir_type_numbers.proofs.type_classes.classes.Goals as goal
 
@@ -23,8 +23,11 @@ closed c =
 
 pub returns-clause-some : goal.returns-clause-some
 returns-clause-some c =
-    subst (λ (classes : List ℕ). (a : ℕ) → HasLayout c.args.types.now c.args.fields.now a → number_at classes a ≢ 0) (sym (kept c))
-    (λ a h. complete c.args.types.now c.args.fields.now c.class_all.new.classes (closed c) (length c.args.types.now) a (laid_out c.args.types.now c.args.fields.now a h))
+    subst (λ (classes : List ℕ). (a : ℕ) → number_at classes a ≢ 0 ↔ HasLayout c.args.types.now c.args.fields.now a) (sym (kept c))
+    (λ a. (
+      λ known. has_layout c.args.types.now c.args.fields.now c.args.named.now (longer_in c.class_all.new.words) c.class_all.new.classes a (classing c) known,
+      λ h. complete c.args.types.now c.args.fields.now c.class_all.new.classes (closed c) (length c.args.types.now) a (laid_out c.args.types.now c.args.fields.now a h),
+    ))
 
 pub returns-clause-same : goal.returns-clause-same
 returns-clause-same c =

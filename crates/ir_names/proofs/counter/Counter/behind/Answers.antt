@@ -1,4 +1,4 @@
-use Rattle.std.proofs.Common.{◌≡◌, true, ap, ◌+◌, ◌∙◌}
+use Rattle.std.proofs.Common.{ap, ◌+◌, ◌∙◌}
 use Rattle.std.specs.Str.Parse.{digits_value}
 use Rattle.ir_names.specs.Faults.{is_number}
 use Rattle.ir_names.proofs.Digits.{significant_decimal, significant_value}

@@ -1,0 +1,4 @@
+pub mod Assembly
+pub mod Globals
+pub mod Module
+pub mod Texts

@@ -1,0 +1,112 @@
+-- What a text without function bodies is read into, or the fault for which it is refused. A text goes through phases: its
+-- length, its tokens, the grammar, names. The first phase with a fault decides. This project's choice.
+use Rattle.std.specs.Prelude.{ℕ, ◌-◌, ◌^◌, ◌<◌, ◌≤◌, ◌≡◌, ◌↔◌, List, [], map, length, slice_get, Option, Some, None, Result, Ok, Err}
+use Rattle.std.specs.Option.{option_map_or}
+use Rattle.ir_core.specs.declared.token.Token.{Token}
+use Rattle.ir_core.specs.declared.refusals.Place.{Place}
+use Rattle.ir_core.specs.declared.refusals.Refusal.{Refusal}
+use Rattle.ir_core.specs.declared.refusals.ReadError.{ReadError}
+use Rattle.ir_core.specs.declared.refusals.ReadError.TheVariants.{Refused, OutOfMemory}
+use Rattle.ir_core.specs.declared.faults.Fault.{Fault}
+use Rattle.ir_core.specs.declared.faults.Fault.TheVariants.{BadToken, TooLarge}
+use Rattle.ir_core.specs.declared.faults.Limit.TheVariants.{Text}
+use Rattle.ir_core.specs.declared.lib_functions.Lib.{Lib}
+use Rattle.ir_core.specs.declared.ir_module.Module.{Module}
+use Rattle.ir_core.specs.Tokenisation.{IsTokenisation, IsBadTokenAt, place_after}
+use Rattle.ir_core.specs.Layout.{layouts_of}
+use Rattle.ir_grammar.specs.declared.terminal.Terminal.{Terminal}
+use Rattle.ir_grammar.specs.declared.terminal.Failure.{Failure}
+use Rattle.ir_grammar.specs.declared.terminal.Failure.TheVariants as failures
+use Rattle.ir_grammar.specs.Spelled.{Store}
+use Rattle.ir_grammar.specs.KindOf.{text_of}
+use Rattle.ir_grammar.specs.Grammar.{nesting_limit}
+use Rattle.ir_grammar.specs.DebugNodes.{kept_nodes}
+use Rattle.ir_read_items.specs.ItemReading.{spelled}
+use Rattle.ir_read_items.specs.ItemLaws.{IsModule}
+use Rattle.ir_names.specs.declared.fault.NameFault.{NameFault}
+use Rattle.ir_names.specs.declared.fault.NamesError.{NamesError}
+use Rattle.ir_names.specs.declared.fault.NamesError.TheVariants as names
+use Rattle.ir_names.specs.First.{first_fault}
+use Rattle.ir_names.specs.Faults.{name_faults}
+use Rattle.ir_names.specs.Meanings.{leads_of}
+use Rattle.ir_type_numbers.specs.Numbering.{stands_for, module_types, module_fields}
+use Rattle.ir_read_top.specs.Module.{AreLibsOf, named_marks, with_pairs, declares_of}
+use Rattle.ir_read_top.specs.Globals.{AreClasses, tables, globals_of}
+
+-- how many bytes a text may have: 16 MiB
+abbrev pub text_limit : ℕ
+text_limit = 16777216
+
+-- a text's tokens as the grammar sees them, with its end behind them
+abbrev pub sentence : List ℕ → List Token → List Terminal
+sentence text tokens = text_of text tokens (place_after text)
+
+-- the fault at a place
+abbrev pub refusal_at : Fault → Place → Refusal
+refusal_at fault place = record { fault = fault; line = place.line; column = place.column }
+
+-- the place of the token from which on there are so many
+abbrev pub place_with : Place → List Terminal → ℕ → Place
+place_with end tokens left = option_map_or (λ (t : Terminal). t.token.place) (slice_get tokens (length tokens - left)) end
+
+-- the error for the first fault of a name
+abbrev pub names_error : NamesError → ReadError
+names_error (names.Fault f) = Refused (refusal_at f.fault f.at.place)
+names_error names.OutOfMemory = OutOfMemory
+
+-- the error for a flaw of these tokens
+abbrev pub flaw_error : Place → List Terminal → Failure → ReadError
+flaw_error end tokens (failures.Flawed flaw) = Refused (refusal_at flaw.fault (place_with end tokens flaw.left))
+flaw_error end tokens failures.OutOfMemory = OutOfMemory
+
+-- what each spelled type stands for
+abbrev pub numbers_of : List ℕ → Store → List ℕ
+numbers_of text store = stands_for store.types (leads_of text store.items store)
+
+-- the module that a text spells, by what was read of it
+pub record IsModuleOf (text : List ℕ) (tokens : List Token) (store : Store) (m : Module) : Type 0 where
+  -- which functions of the outside the items declare
+  pub libs : List (Option Lib)
+  pub libs_right : AreLibsOf text store.items libs
+  pub fields : m.fields ≡ module_fields store.fields (numbers_of text store)
+  pub types : m.types ≡ with_pairs store.types m.fields (module_types store.types (numbers_of text store)) store.items libs
+  pub layouts : m.layouts ≡ layouts_of m.types m.fields
+  -- which types are one
+  pub classes : List ℕ
+  pub classes_right : AreClasses m.types m.fields (named_marks store.items store.types) classes
+  pub globals : m.globals ≡ globals_of (tables text store (numbers_of text store) classes m) store.items
+  pub declares : m.declares ≡ declares_of (numbers_of text store) store.parameters store.items libs
+  pub functions : m.functions ≡ []
+  pub main : m.main ≡ 0
+  pub meta : m.meta ≡ kept_nodes text tokens
+
+-- the text is accepted, and this is its module
+pub record IsAccepted (text : List ℕ) (m : Module) : Type 0 where
+  pub short : length text ≤ text_limit
+  pub tokens : List Token
+  pub cut : IsTokenisation text tokens
+  pub store : Store
+  pub derived : IsModule nesting_limit (sentence text tokens) store
+  pub named : first_fault (name_faults text store.items store) ≡ None
+  pub spelled : IsModuleOf text tokens store m
+
+-- the text is refused so
+pub data IsFaultOf (text : List ℕ) : Refusal → Type 0 where
+  -- it is too long
+  too_long : text_limit < length text → IsFaultOf text (refusal_at (TooLarge Text) (record { line = 1; column = 1 }))
+  -- no token can be read here
+  bad_token : (place : Place) → length text ≤ text_limit → IsBadTokenAt text place → IsFaultOf text (refusal_at BadToken place)
+  -- no module goes on with the token here
+  flawed : (tokens : List Token) (fault : Fault) (left : ℕ) → length text ≤ text_limit → IsTokenisation text tokens
+      → spelled (sentence text tokens) ≡ Err (record { fault = fault; left = left })
+      → IsFaultOf text (refusal_at fault (place_with (place_after text) (sentence text tokens) left))
+  -- the first fault of a name is here
+  misnamed : (tokens : List Token) (store : Store) (f : NameFault) → length text ≤ text_limit → IsTokenisation text tokens
+      → IsModule nesting_limit (sentence text tokens) store → first_fault (name_faults text store.items store) ≡ Some f
+      → IsFaultOf text (refusal_at f.fault f.at.place)
+
+-- what reading a text answers: its module, or its fault, or want of memory
+abbrev pub ReadsText : List ℕ → Result Module ReadError → Type 0
+ReadsText text (Ok m) = IsAccepted text m
+ReadsText text (Err (Refused refusal)) = IsFaultOf text refusal
+ReadsText text (Err OutOfMemory) = Unit {0}

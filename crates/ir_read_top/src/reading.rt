@@ -1,0 +1,119 @@
+ghost use Rattle.std.specs.Prelude.{◌≡◌, ◌<◌, ◌≤◌, ◌^◌, length};
+ghost use Rattle.ir_core.specs.Tokenisation.{IsTokenisation};
+ghost use Rattle.ir_grammar.specs.Grammar.{nesting_limit};
+ghost use Rattle.ir_grammar.specs.Spelled.{store_of};
+ghost use Rattle.ir_grammar.specs.SoundStore.{IsSoundStore, size_of};
+ghost use Rattle.ir_read_items.specs.ItemLaws.{IsModule};
+ghost use Rattle.ir_read_top.specs.Texts.{text_limit, sentence, refusal_at, place_with, names_error, flaw_error, ReadsText};
+
+use crate::assembly::module_of;
+use hw_base::OutOfMemory;
+use ir_core::{Fault, Limit, Module, Place, ReadError, Refusal, Tokens};
+use ir_grammar::{Failure, Spellings, Terminal, terminals};
+use ir_lex::{end_of, lex};
+use ir_names::{NamesError, resolve_names};
+use ir_read_items::read_items;
+use std::alloc::Global;
+
+/// How many bytes a text may have: 16 MiB.
+const TEXT_LIMIT: usize = 16_777_216;
+
+/// The fault at a place.
+fn refusal_at(fault: Fault, place: Place) -> Refusal
+    ensures { result ≡ refusal_at fault place }
+{
+    Refusal {
+        fault,
+        line: place.line,
+        column: place.column,
+    }
+}
+
+/// The place of the token from which on there are so many, or the end.
+fn place_with(end: Place, tokens: &[Terminal], left: usize) -> Place
+    ensures { result ≡ place_with end tokens.now left }
+{
+    match tokens.get(tokens.len().saturating_sub(left)) {
+        Some(token) => token.token.place,
+        None => end,
+    }
+}
+
+/// The error for the first fault of a name.
+fn names_error(error: NamesError) -> ReadError
+    ensures { result ≡ names_error error }
+{
+    match error {
+        NamesError::Fault(fault) => {
+            ReadError::Refused(refusal_at(fault.fault, fault.at.place))
+        }
+        NamesError::OutOfMemory => ReadError::OutOfMemory,
+    }
+}
+
+/// The error for a flaw of these tokens.
+fn flaw_error(end: Place, tokens: &[Terminal], failure: Failure) -> ReadError
+    ensures { result ≡ flaw_error end tokens.now failure }
+{
+    match failure {
+        Failure::Flawed(flaw) => {
+            ReadError::Refused(refusal_at(flaw.fault, place_with(end, tokens, flaw.left)))
+        }
+        Failure::OutOfMemory => ReadError::OutOfMemory,
+    }
+}
+
+/// The module of what was read, or the first fault of a name.
+fn read_names(alloc: Global, tokens: &Tokens, found: &Spellings) -> Result<Module, ReadError>
+    requires short { length tokens.now.source ≤ text_limit }
+    requires few { length tokens.now.tokens < 2 ^ 32 }
+    requires cut { IsTokenisation tokens.now.source tokens.now.tokens }
+    requires derived { IsModule nesting_limit (sentence tokens.now.source tokens.now.tokens) (store_of found.now) }
+    requires sound { IsSoundStore (store_of found.now) }
+    requires small { size_of (store_of found.now) < 2 ^ 32 }
+    ensures { ReadsText tokens.now.source result }
+{
+    match resolve_names(alloc, tokens.source(), &found.items, found) {
+        Ok(references) => match module_of(alloc, tokens, found, &references) {
+            Ok(module) => Ok(module),
+            Err(OutOfMemory) => Err(ReadError::OutOfMemory),
+        },
+        Err(error) => Err(names_error(error)),
+    }
+}
+
+/// The module of a text with these tokens, or its first fault.
+fn read_tokens(alloc: Global, tokens: &Tokens) -> Result<Module, ReadError>
+    requires short { length tokens.now.source ≤ text_limit }
+    requires few { length tokens.now.tokens ≤ length tokens.now.source }
+    requires cut { IsTokenisation tokens.now.source tokens.now.tokens }
+    ensures { ReadsText tokens.now.source result }
+{
+    let end = end_of(tokens.source());
+    let sentence = terminals(alloc, tokens, end)?;
+    match read_items(alloc, &sentence) {
+        Ok(found) => read_names(alloc, tokens, &found),
+        Err(failure) => Err(flaw_error(end, &sentence, failure)),
+    }
+}
+
+/// A text of LLVM IR, without function bodies for now, read into a module (LLVM Language Reference). The accepted spelling is
+/// this project's profile of it. The error is `Refused` with the first fault of the first phase that has one: TooLarge where
+/// the text has more than 16 MiB; BadToken where no token can be read; BadSyntax, Unsupported, or TooLarge for nesting, at
+/// the first token with which no module begins; Unsupported, Unknown or Twice at the first name with a fault. Line and column
+/// count from 1, columns in bytes. Else it is want of memory.
+pub fn read(alloc: Global, text: &[u8]) -> Result<Module, ReadError>
+    ensures { ReadsText text.now result }
+{
+    if text.len() > TEXT_LIMIT {
+        let start = Place { line: 1, column: 1 };
+        return Err(ReadError::Refused(refusal_at(
+            Fault::TooLarge(Limit::Text),
+            start,
+        )));
+    }
+    match lex(alloc, text) {
+        Ok(tokens) => read_tokens(alloc, &tokens),
+        Err(error) => Err(error),
+    }
+}
