@@ -352,6 +352,16 @@ put_within_by globals bytes new (Some parts) h e =
     subst (All (IsPartWithin globals bytes)) same (within_size globals bytes parts h)
 put_within_by globals bytes new None h e = cc
 
+may_be_within : (globals bytes : ℕ) (value : Option (List Part)) → MayBeIn globals 0 (0 + bytes) value → IfSome value (All (IsPartWithin globals bytes))
+may_be_within globals bytes (Some parts) h = within_size globals bytes parts h
+may_be_within globals bytes None h = tt
+
+-- the law for a value from byte 0 on
+pub first_value_within : (levels : ℕ) (t : Tables) (globals ty c : ℕ) → All IsByte t.source → AreNumbered globals t.variables → is_known (layout_at (exact_layouts t.types t.fields) ty) ≡ true → size t ty ≤ 2 ^ 40 → IfSome (first_value levels t ty c 0) (All (IsPartWithin globals (size t ty)))
+first_value_within levels t globals ty c bytes named known small =
+    may_be_within globals (size t ty) (first_value levels t ty c 0)
+    (first_value_inside levels t globals ty c 0 (record { bytes = bytes; named = named }) (record { known = known; size = small }))
+
 -- the pieces that were put behind none
 pub put_within : (levels : ℕ) (t : Tables) (globals ty c : ℕ) (old new : List Part) → All IsByte t.source → AreNumbered globals t.variables → is_known (layout_at (exact_layouts t.types t.fields) ty) ≡ true → size t ty ≤ 2 ^ 40 → old ≡ [] → behind old (first_value levels t ty c 0) ≡ Some new → All (IsPartWithin globals (size t ty)) new
 put_within levels t globals ty c old new bytes named known small none e =
