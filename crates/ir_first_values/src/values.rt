@@ -13,7 +13,7 @@ use crate::no_value::NoValue;
 use crate::parts::{TypePart, is_array_of, is_struct_of};
 use hw_base::{ByteList, OutOfMemory};
 use ir_core::{IrType, Operand, Part, PartList, Token};
-use ir_grammar::{SpelledConstant, TypedConstant};
+use ir_grammar::{SpelledConstant, SpelledInteger, TypedConstant};
 use ir_text::string_bytes;
 use std::alloc::Global;
 
@@ -111,7 +111,7 @@ impl<'a> Initializers<'a> {
         parts: &mut PartList,
         at: u64,
         ty: u32,
-        integer: ir_grammar::SpelledInteger,
+        integer: SpelledInteger,
     ) -> Result<(), NoValue>
         ensures { Puts result parts.old parts.new (integer_value at (type_at (tables_of self.now) ty) (λ width. integer_in width integer)) }
     {
