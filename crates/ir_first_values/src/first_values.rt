@@ -27,9 +27,7 @@ pub struct FirstValue {
 /// Does nothing: it says of a text that each of its bytes is below 256.
 fn text_has_bytes(text: &[u8])
     ensures { All (λ b. b < 256) text.now }
-{
-    let _bytes = text.len();
-}
+{}
 
 impl<'a> Initializers<'a> {
     /// The first value of a variable of a type, by the number of the type in the module and that of its initializer among
