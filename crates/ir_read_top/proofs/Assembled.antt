@@ -10,8 +10,7 @@ use Rattle.ir_grammar.specs.declared.spelled.SpelledItem.{SpelledItem}
 use Rattle.ir_grammar.specs.Spelled.{Store}
 use Rattle.ir_type_numbers.specs.declared.numbering.NumberedTypes.{NumberedTypes}
 use Rattle.ir_type_numbers.specs.Numbering.{module_types, module_fields}
-use Rattle.ir_read_top.specs.Module.{AreLibsOf, with_pairs, declares_of}
-use Rattle.ir_read_top.specs.Globals.{tables, globals_of}
+use Rattle.ir_read_top.specs.Module.{AreLibsOf, with_pairs}
 use Rattle.ir_read_top.specs.Assembly.{IsAssembled}
 use Rattle.ir_read_top.specs.Texts.{numbers_of, IsModuleOf}
 

@@ -1,2 +1,4 @@
 pub mod Assembled
 pub mod Phases
+pub mod ResolvedModule
+pub mod ResolvedTypes

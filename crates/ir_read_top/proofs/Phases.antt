@@ -1,13 +1,11 @@
 -- From what each phase answers to what a text is read into.
-use Rattle.std.proofs.Common.{◌≡◌, ℕ, ◌+◌, ◌*◌, ◌^◌, ◌<◌, ◌≤◌, List, [], ◌∷◌, ◌++◌, length, ap, ◌∙◌, sym, subst, refl, arith, length-append, Ok, Err}
+use Rattle.std.proofs.Common.{◌≡◌, ℕ, ◌+◌, ◌*◌, ◌^◌, ◌<◌, ◌≤◌, List, [], ◌∷◌, length, sym, subst, refl, arith, length-append, Err}
 use Rattle.ir_core.specs.declared.token.Token.{Token}
 use Rattle.ir_core.specs.declared.refusals.Place.{Place}
 use Rattle.ir_core.specs.declared.refusals.Refusal.{Refusal}
 use Rattle.ir_core.specs.declared.refusals.ReadError.{ReadError}
 use Rattle.ir_core.specs.declared.refusals.ReadError.TheVariants.{Refused, OutOfMemory}
-use Rattle.ir_core.specs.declared.faults.Fault.{Fault}
 use Rattle.ir_core.specs.declared.faults.Fault.TheVariants.{BadToken}
-use Rattle.ir_core.specs.Tokens.{Tokenised}
 use Rattle.ir_core.specs.Tokenisation.{IsTokenisation, place_after}
 use Rattle.ir_lex.specs.Lexes.{Lexes}
 use Rattle.ir_grammar.specs.Spelled.{Store}

@@ -1,5 +1,5 @@
 -- The global variables of a module, and when two of its types are one for their first values.
-use Rattle.std.specs.Prelude.{ℕ, ◌≡◌, ◌↔◌, ◌≢◌, List, [], ◌∷◌, ◌++◌, length, Bool, Option, Some, unwrap_or, is_some}
+use Rattle.std.specs.Prelude.{ℕ, ◌≡◌, ◌↔◌, List, [], ◌∷◌, ◌++◌, length, Bool, unwrap_or, is_some}
 use Rattle.ir_core.specs.declared.types.IrType.{IrType}
 use Rattle.ir_core.specs.declared.ir_module.GlobalVar.{GlobalVar}
 use Rattle.ir_core.specs.declared.ir_module.Module.{Module}

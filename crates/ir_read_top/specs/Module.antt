@@ -1,6 +1,5 @@
 -- The module that a text without function bodies spells, part by part.
-use Rattle.std.specs.Prelude.{ℕ, suc, ◌+◌, ◌==◌, ◌&&◌, ◌≡◌, ◌↔◌, List, [], ◌∷◌, ◌++◌, map, take, drop, length, slice_get, slice_set, slice_index_or, replicate, Bool, true, false, if◌then◌else◌, Option, Some, None}
-use Rattle.ir_core.specs.declared.token.Token.{Token}
+use Rattle.std.specs.Prelude.{ℕ, ◌==◌, ◌≡◌, List, [], ◌∷◌, ◌++◌, map, take, drop, length, slice_get, slice_set, replicate, Bool, true, false, if◌then◌else◌, Option, Some, None}
 use Rattle.ir_core.specs.declared.types.IrType.{IrType}
 use Rattle.ir_core.specs.declared.types.IrType.TheVariants.{Int, Pair}
 use Rattle.ir_core.specs.declared.lib_functions.Lib.{Lib}

@@ -125,11 +125,7 @@ fn assembled(
 }
 
 /// The classes of the types of a module: two that don't hold themselves are one exactly where these are equal.
-fn classes_of(
-    alloc: Global,
-    module: &Module,
-    found: &Spellings,
-) -> Result<Vec<u64>, OutOfMemory>
+fn classes_of(alloc: Global, module: &Module, found: &Spellings) -> Result<Vec<u64>, OutOfMemory>
     ensures { IfOk result (λ classes. AreClasses module.now.types module.now.fields (named_marks (store_of found.now).items (store_of found.now).types) classes.items) }
 {
     let named = named_marks(alloc, &found.items, found.types.len())?;

@@ -86,7 +86,11 @@ fn parameter_types(
 }
 
 /// The parameters from `first` on, at most so many.
-fn parameters_from(parameters: &[SpelledParameter], first: usize, count: usize) -> &[SpelledParameter]
+fn parameters_from(
+    parameters: &[SpelledParameter],
+    first: usize,
+    count: usize,
+) -> &[SpelledParameter]
     ensures { result.now ≡ take count (drop first parameters.now) }
 {
     let from = parameters.len().min(first);
@@ -116,7 +120,11 @@ fn push_declare(
             first,
             count,
         } => {
-            let params = parameter_types(alloc, numbers, parameters_from(parameters, *first, *count))?;
+            let params = parameter_types(
+                alloc,
+                numbers,
+                parameters_from(parameters, *first, *count),
+            )?;
             declares.push(Declare {
                 lib,
                 result: number_at(numbers, *result),

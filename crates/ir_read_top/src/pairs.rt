@@ -10,13 +10,7 @@ fn pair_width(first: Option<IrType>, second: Option<IrType>) -> Option<u32>
 {
     match first {
         Some(IrType::Int(width)) => match second {
-            Some(IrType::Int(bit)) => {
-                if bit == 1 {
-                    Some(width)
-                } else {
-                    None
-                }
-            }
+            Some(IrType::Int(bit)) => { if bit == 1 { Some(width) } else { None } }
             _ => None,
         },
         _ => None,

@@ -1,4 +1,5 @@
-ghost use Rattle.std.specs.Prelude.{◌≡◌, ◌<◌, ◌≤◌, ◌^◌, length};
+ghost use Rattle.std.specs.Prelude.{◌≡◌, ◌<◌, ◌≤◌, ◌^◌, length, IfOk};
+ghost use Rattle.ir_core.specs.Resolved.{IsResolvedOutside};
 ghost use Rattle.ir_core.specs.Tokenisation.{IsTokenisation};
 ghost use Rattle.ir_grammar.specs.Grammar.{nesting_limit};
 ghost use Rattle.ir_grammar.specs.Spelled.{store_of};
@@ -44,9 +45,7 @@ fn names_error(error: NamesError) -> ReadError
     ensures { result ≡ names_error error }
 {
     match error {
-        NamesError::Fault(fault) => {
-            ReadError::Refused(refusal_at(fault.fault, fault.at.place))
-        }
+        NamesError::Fault(fault) => { ReadError::Refused(refusal_at(fault.fault, fault.at.place)) }
         NamesError::OutOfMemory => ReadError::OutOfMemory,
     }
 }
@@ -101,16 +100,14 @@ fn read_tokens(alloc: Global, tokens: &Tokens) -> Result<Module, ReadError>
 /// this project's profile of it. The error is `Refused` with the first fault of the first phase that has one: TooLarge where
 /// the text has more than 16 MiB; BadToken where no token can be read; BadSyntax, Unsupported, or TooLarge for nesting, at
 /// the first token with which no module begins; Unsupported, Unknown or Twice at the first name with a fault. Line and column
-/// count from 1, columns in bytes. Else it is want of memory.
+/// count from 1, columns in bytes. Else it is want of memory. Each number in the module names a thing that is there.
 pub fn read(alloc: Global, text: &[u8]) -> Result<Module, ReadError>
-    ensures { ReadsText text.now result }
+    ensures text { ReadsText text.now result }
+    ensures resolved { IfOk result IsResolvedOutside }
 {
     if text.len() > TEXT_LIMIT {
         let start = Place { line: 1, column: 1 };
-        return Err(ReadError::Refused(refusal_at(
-            Fault::TooLarge(Limit::Text),
-            start,
-        )));
+        return Err(ReadError::Refused(refusal_at(Fault::TooLarge(Limit::Text), start)));
     }
     match lex(alloc, text) {
         Ok(tokens) => read_tokens(alloc, &tokens),

@@ -1,4 +1,4 @@
-use Rattle.std.proofs.Common.{◌≡◌, ◌∙◌, ap, sym, subst}
+use Rattle.std.proofs.Common.{◌∙◌, ap, sym, subst}
 use Rattle.std.specs.Prelude.{IfOk}
 use Rattle.ir_grammar.specs.Spelled.{store_of}
 use Rattle.ir_type_numbers.specs.Numbering.{stands_for, module_types, module_fields}

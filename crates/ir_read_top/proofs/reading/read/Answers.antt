@@ -1,10 +1,19 @@
-use Rattle.std.proofs.Common.{sym, subst}
-use Rattle.ir_read_top.specs.Texts.{IsFaultOf, too_long}
+use Rattle.std.proofs.Common.{All, sym, subst, arith}
+use Rattle.std.proofs.lemmas.List.Elements.{All-from_get_or}
+use Rattle.ir_first_values.proofs.TextBytes.{IsByte}
+use Rattle.ir_read_top.specs.Texts.{IsFaultOf, too_long, ReadsText}
 use Rattle.ir_read_top.proofs.Phases.{bad_text}
+use Rattle.ir_read_top.proofs.ResolvedModule.{resolved_answer}
 use Rattle.ir_read_top.proofs.reading.read.Goals as goal
 
-pub returns-then-text-gt-TEXT_LIMIT : goal.returns-then-text-gt-TEXT_LIMIT
-returns-then-text-gt-TEXT_LIMIT c = subst (IsFaultOf c.args.text.now) (sym c.refusal_at.ensures) (too_long c.if-text-gt-TEXT_LIMIT.true)
+pub returns-then-text-gt-TEXT_LIMIT-clause-text : goal.returns-then-text-gt-TEXT_LIMIT-clause-text
+returns-then-text-gt-TEXT_LIMIT-clause-text c = subst (IsFaultOf c.args.text.now) (sym c.refusal_at.ensures) (too_long c.if-text-gt-TEXT_LIMIT.true)
 
-pub returns-in-Err : goal.returns-in-Err
-returns-in-Err c = bad_text c.args.text.now c.in-Err.error c.if-text-gt-TEXT_LIMIT.false c.in-Err.ensures.lexes
+pub returns-in-Ok-clause-resolved : goal.returns-in-Ok-clause-resolved
+returns-in-Ok-clause-resolved c =
+    let bytes : All IsByte c.args.text.now = All-from_get_or IsByte c.args.text.now 0 (λ k h. let fits = c.type_inv.text k in omega arith) in
+    resolved_answer c.args.text.now c.read_tokens.result bytes
+    (subst (λ text. ReadsText text c.read_tokens.result) c.in-Ok.ensures.lexes.0 c.read_tokens.ensures)
+
+pub returns-in-Err-clause-text : goal.returns-in-Err-clause-text
+returns-in-Err-clause-text c = bad_text c.args.text.now c.in-Err.error c.if-text-gt-TEXT_LIMIT.false c.in-Err.ensures.lexes

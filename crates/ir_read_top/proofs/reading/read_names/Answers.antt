@@ -1,4 +1,4 @@
-use Rattle.std.proofs.Common.{◌≡◌, sym, ap, subst, Ok, Err}
+use Rattle.std.proofs.Common.{sym, subst, Err}
 use Rattle.ir_grammar.specs.Spelled.{store_of}
 use Rattle.ir_names.specs.Meanings.{Resolves, IsResolution}
 use Rattle.ir_read_top.specs.Texts.{ReadsText}
@@ -9,16 +9,16 @@ pub module_of-requires-clause-names : goal.module_of-requires-clause-names
 module_of-requires-clause-names c =
     let store = store_of c.args.found.now in
     let resolved : IsResolution c.args.tokens.now.source c.args.found.now.items.items store c.in-Ok.references =
-        subst (λ v. IsResolution v c.args.found.now.items.items store c.in-Ok.references) c.source.ensures
-        (subst (λ v. IsResolution c.source.result.now v store c.in-Ok.references) c.deref.ensures.value c.in-Ok.ensures) in
+    subst (λ v. IsResolution v c.args.found.now.items.items store c.in-Ok.references) c.source.ensures
+    (subst (λ v. IsResolution c.source.result.now v store c.in-Ok.references) c.deref.ensures.value c.in-Ok.ensures) in
     resolved.variables
 
 pub returns-in-Ok-module_of : goal.returns-in-Ok-module_of
 returns-in-Ok-module_of c =
     let store = store_of c.args.found.now in
     let resolved : IsResolution c.args.tokens.now.source c.args.found.now.items.items store c.in-Ok.references =
-        subst (λ v. IsResolution v c.args.found.now.items.items store c.in-Ok.references) c.source.ensures
-        (subst (λ v. IsResolution c.source.result.now v store c.in-Ok.references) c.deref.ensures.value c.in-Ok.ensures) in
+    subst (λ v. IsResolution v c.args.found.now.items.items store c.in-Ok.references) c.source.ensures
+    (subst (λ v. IsResolution c.source.result.now v store c.in-Ok.references) c.deref.ensures.value c.in-Ok.ensures) in
     record {
       short = c.requires.short;
       tokens = c.args.tokens.now.tokens;

@@ -1,4 +1,4 @@
-use Rattle.std.proofs.Common.{◌≡◌, List, ◌+◌, length, sym, ◌∙◌, ap, subst, Ok, Err, arith}
+use Rattle.std.proofs.Common.{◌≡◌, ◌+◌, length, sym, ◌∙◌, ap, subst, Err, arith}
 use Rattle.ir_core.specs.Tokenisation.{place_after}
 use Rattle.ir_grammar.specs.Spelled.{store_of}
 use Rattle.ir_grammar.specs.KindOf.{text_of}
@@ -33,6 +33,6 @@ returns c =
     let whole : c.deref.result.now ≡ sentence source tokens = c.deref.ensures.value ∙ c.in_ok-sentence.ensures.text ∙ ap (text_of source tokens) end in
     let whole' : c.deref-in-Err.result.now ≡ sentence source tokens = c.deref-in-Err.ensures.value ∙ c.in_ok-sentence.ensures.text ∙ ap (text_of source tokens) end in
     let same : c.flaw_error.result ≡ flaw_error (place_after source) (sentence source tokens) c.in-Err.failure =
-        c.flaw_error.ensures ∙ (ap (λ e. flaw_error e c.deref-in-Err.result.now c.in-Err.failure) end ∙ ap (λ v. flaw_error (place_after source) v c.in-Err.failure) whole') in
+    c.flaw_error.ensures ∙ (ap (λ e. flaw_error e c.deref-in-Err.result.now c.in-Err.failure) end ∙ ap (λ v. flaw_error (place_after source) v c.in-Err.failure) whole') in
     subst (λ e. ReadsText source (Err e)) (sym same)
     (flawed_text source tokens c.in-Err.failure c.requires.short c.requires.cut (subst (λ v. ReadsItems v (Err c.in-Err.failure)) whole c.in-Err.ensures.spelled))
