@@ -11,3 +11,6 @@ mod pairs;
 mod reading;
 
 pub use reading::read;
+
+#[cfg(test)]
+mod tests;
