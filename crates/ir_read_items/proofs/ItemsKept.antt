@@ -153,9 +153,13 @@ declare_parameters_kept = first_kept parameters declare_tail 16 16 0 parameters_
 
 declare_kept : Spares nothing declare_item 1
 unfolding declare_item
-declare_kept =
-    (1, 2, (λ v st from good sound. kept_declare ((v.1).0).token v.0 ((v.1).1) st (size_of st + (0 + (0 + length ((v.1).1))) + 1) good sound.0 ((sound.1).1) (omega arith)),
-    (8, 8, declare_head_kept, (8, 16, omega arith, declare_parameters_kept, omega arith), omega arith), omega arith)
+declare_kept = (
+  1,
+  2,
+  (λ v st from good sound. kept_declare ((v.1).0).token v.0 ((v.1).1) st (size_of st + (0 + (0 + length ((v.1).1))) + 1) good sound.0 ((sound.1).1) (omega arith)),
+  (8, 8, declare_head_kept, (8, 16, omega arith, declare_parameters_kept, omega arith), omega arith),
+  omega arith,
+)
 
 bang_kept : Spares nothing bang_node 8
 unfolding bang_node

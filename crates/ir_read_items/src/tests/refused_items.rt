@@ -1,0 +1,151 @@
+use super::*;
+
+#[test]
+fn texts_that_begin_no_item(rt: HostRuntime) -> Result<(), Fail> {
+    let rows = [
+        ("define void @f() {", "Unsupported 1:1"),
+        ("declare void @f()\ndefine void @g() {", "Unsupported 2:1"),
+        ("$c = comdat any", "Unsupported 1:1"),
+        ("declare void @f()\n$c = comdat any", "Unsupported 2:1"),
+        ("%t = type i8\n$c = comdat any", "Unsupported 2:1"),
+        ("module asm \"x\"", "Unsupported 1:1"),
+        ("declare void @f()\nmodule asm \"x\"", "Unsupported 2:1"),
+        ("uselistorder ptr @f, { 1, 0 }", "Unsupported 1:1"),
+        ("external global", "Unsupported 1:1"),
+        ("...", "Unsupported 1:1"),
+        ("<4", "Unsupported 1:1"),
+        ("u0x1 = type i8", "Unsupported 1:1"),
+        ("foo", "BadSyntax 1:1"),
+        ("i32", "BadSyntax 1:1"),
+        ("load", "BadSyntax 1:1"),
+        ("global", "BadSyntax 1:1"),
+        ("5", "BadSyntax 1:1"),
+        ("1.5", "BadSyntax 1:1"),
+        ("\"x\"", "BadSyntax 1:1"),
+        ("#0", "BadSyntax 1:1"),
+        ("foo:", "BadSyntax 1:1"),
+        ("!{}", "BadSyntax 1:1"),
+        ("}", "BadSyntax 1:1"),
+        ("%t = type i8\n ; c\n  }", "BadSyntax 3:3"),
+    ];
+    check_rows(&rt, rt.alloc(), rows.as_slice())
+}
+
+#[test]
+fn lines_that_do_not_go_on(rt: HostRuntime) -> Result<(), Fail> {
+    let rows = [
+        ("source_filename \"a\"", "BadSyntax 1:17"),
+        ("source_filename = a", "BadSyntax 1:19"),
+        ("source_filename = c\"a\"", "BadSyntax 1:19"),
+        ("source_filename =", "BadSyntax 1:18"),
+        ("source_filename = \"a\" \"b\"", "BadSyntax 1:23"),
+        ("target cpu = \"x\"", "BadSyntax 1:8"),
+        ("target half = \"x\"", "BadSyntax 1:8"),
+        ("target", "BadSyntax 1:7"),
+        ("target datalayout \"e\"", "BadSyntax 1:19"),
+        ("target datalayout = e", "BadSyntax 1:21"),
+        ("target datalayout = ...", "Unsupported 1:21"),
+        ("target datalayout =", "BadSyntax 1:20"),
+        ("target datalayout = \"E\"", "Unsupported 1:21"),
+        ("target datalayout = \"e-E\"", "Unsupported 1:21"),
+        ("target datalayout = \"e-p:32:32\"", "Unsupported 1:21"),
+        ("target datalayout = \"e-p0:32:32\"", "Unsupported 1:21"),
+        ("target datalayout = \"e-p:\"", "Unsupported 1:21"),
+        ("target datalayout = \"e-i64:32\"", "Unsupported 1:21"),
+        ("target datalayout = \"e-i64:\"", "Unsupported 1:21"),
+        ("target datalayout = \"e-i128:64:64\"", "Unsupported 1:21"),
+        ("target triple \"e\"", "BadSyntax 1:15"),
+        ("target triple = 5", "BadSyntax 1:17"),
+        ("attributes 0 = {}", "BadSyntax 1:12"),
+        ("attributes #0 {}", "BadSyntax 1:15"),
+        ("attributes #0 = nounwind", "BadSyntax 1:17"),
+        ("attributes #0 = []", "BadSyntax 1:17"),
+        ("attributes #0 = { ( ] }", "BadSyntax 1:21"),
+        ("attributes #0 = { ( } )", "BadSyntax 1:21"),
+        ("attributes #0 = { a", "BadSyntax 1:20"),
+    ];
+    check_rows(&rt, rt.alloc(), rows.as_slice())
+}
+
+#[test]
+fn declares_that_do_not_go_on(rt: HostRuntime) -> Result<(), Fail> {
+    let rows = [
+        ("declare", "BadSyntax 1:8"),
+        ("declare @f()", "BadSyntax 1:9"),
+        ("declare void f()", "BadSyntax 1:14"),
+        ("declare void @f", "BadSyntax 1:16"),
+        ("declare void @f)", "BadSyntax 1:16"),
+        ("declare half @f()", "Unsupported 1:9"),
+        ("declare target @f()", "Unsupported 1:9"),
+        ("declare i129 @f()", "Unsupported 1:9"),
+        ("declare <4 x i8> @f()", "Unsupported 1:9"),
+        ("declare byval void @f()", "Unsupported 1:9"),
+        ("declare load void @f()", "BadSyntax 1:9"),
+        ("declare align 3 void @f()", "BadSyntax 1:15"),
+        ("declare metadata metadata @f()", "BadSyntax 1:18"),
+        ("declare !foo = void @f()", "BadSyntax 1:14"),
+        ("declare !0 void @f()", "BadSyntax 1:9"),
+        ("declare noalias !dbg !0 void @f()", "BadSyntax 1:17"),
+        ("declare void ptr @f()", "BadSyntax 1:14"),
+        ("declare void (i8) @f()", "BadSyntax 1:14"),
+        ("declare void @f(i32, ...)", "Unsupported 1:22"),
+        ("declare void @f(...)", "Unsupported 1:17"),
+        ("declare void @f(i32 ...)", "Unsupported 1:21"),
+        ("declare void @f(i32 metadata)", "Unsupported 1:21"),
+        ("declare void @f(i32 byval(i8))", "Unsupported 1:21"),
+        ("declare void @f(i32 load)", "BadSyntax 1:21"),
+        ("declare void @f(i32 align 3)", "BadSyntax 1:27"),
+        ("declare void @f(i32 %a %b)", "BadSyntax 1:24"),
+        ("declare void @f(i32 %a noundef)", "BadSyntax 1:24"),
+        ("declare void @f(i32 @a)", "BadSyntax 1:21"),
+        ("declare void @f(i32,)", "BadSyntax 1:21"),
+        ("declare void @f(,)", "BadSyntax 1:17"),
+        ("declare void @f(i32", "BadSyntax 1:20"),
+        ("declare void @f(i32]", "BadSyntax 1:20"),
+        ("declare void @f([2 x half])", "Unsupported 1:22"),
+        ("declare void @f(half)", "Unsupported 1:17"),
+        ("declare void @f(noundef i32)", "BadSyntax 1:17"),
+        ("declare void @f(void (i8))", "BadSyntax 1:22"),
+        ("declare void @f() global", "BadSyntax 1:19"),
+        ("declare void @f() metadata", "Unsupported 1:19"),
+        ("declare void @f() personality ptr @g", "Unsupported 1:19"),
+        ("declare void @f() align 3", "BadSyntax 1:25"),
+        ("declare void @f() {", "BadSyntax 1:19"),
+        ("declare void @f() section 5", "BadSyntax 1:27"),
+        ("declare void @f() !foo", "BadSyntax 1:23"),
+    ];
+    check_rows(&rt, rt.alloc(), rows.as_slice())
+}
+
+#[test]
+fn metadata_that_does_not_go_on(rt: HostRuntime) -> Result<(), Fail> {
+    let rows = [
+        ("!foo {", "BadSyntax 1:6"),
+        ("declare void @f()\n!foo {", "BadSyntax 2:6"),
+        ("!foo !0", "BadSyntax 1:6"),
+        ("!foo", "BadSyntax 1:5"),
+        ("declare void @f()\n!foo", "BadSyntax 2:5"),
+        ("declare void @f()\n!0 = !{}\n!foo !1", "BadSyntax 3:6"),
+        ("declare void @f()\n!foo !1\n!bar {", "BadSyntax 3:6"),
+        ("declare void @f()\n!foo = 5", "BadSyntax 2:8"),
+        ("declare void @f()\n!foo = !{}\n!bar !0", "BadSyntax 3:6"),
+        ("!foo = 5", "BadSyntax 1:8"),
+        ("!foo = distinct !{}", "BadSyntax 1:8"),
+        ("!foo = !bar()", "BadSyntax 1:8"),
+        ("!foo = !{", "BadSyntax 1:10"),
+        ("!0 = {}", "BadSyntax 1:6"),
+        ("!0 {}", "BadSyntax 1:4"),
+        ("!0 = !{", "BadSyntax 1:8"),
+        ("!0 = !{ ) }", "BadSyntax 1:9"),
+        ("!0 = !()", "BadSyntax 1:7"),
+        ("!0 = !1", "BadSyntax 1:6"),
+        ("!0 = !foo {}", "BadSyntax 1:11"),
+        ("!0 = !foo = ()", "BadSyntax 1:11"),
+        ("!0 = !foo", "BadSyntax 1:10"),
+        ("!0 = distinct", "BadSyntax 1:14"),
+        ("!0 = distinct distinct !{}", "BadSyntax 1:15"),
+        ("!0 = half", "BadSyntax 1:6"),
+        ("!0 = u0x1", "Unsupported 1:6"),
+    ];
+    check_rows(&rt, rt.alloc(), rows.as_slice())
+}
