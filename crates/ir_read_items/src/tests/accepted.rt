@@ -76,6 +76,10 @@ fn globals_with_their_attributes_and_tails(rt: HostRuntime) -> Result<(), Fail> 
             "T i8;C 0;I @g:g0=0;",
         ),
         (
+            "@g = global i8 0, section, section \"E\", section (a [b]), section\n@h = global i8 1",
+            "T i8 i8;C 0 1;I @g:g0=0 @h:g1=1;",
+        ),
+        (
             "@g = global i8 0\n@h = constant i8 1, !dbg !0\n!foo = !{}",
             "T i8 i8;C 0 1;I @g:g0=0 @h:c1=1 !foo;",
         ),

@@ -100,7 +100,7 @@ fn globals_that_do_not_go_on(rt: HostRuntime) -> Result<(), Fail> {
         ("@g = global i32 0, !dbg 3", "BadSyntax 1:25"),
         ("@g = global i32 0, !0", "BadSyntax 1:20"),
         ("@g = global i32 0, section 5", "BadSyntax 1:28"),
-        ("@g = global i32 0, section", "BadSyntax 1:27"),
+        ("@g = global i32 0, section !dbg", "BadSyntax 1:32"),
         ("@g = global i32 0, section \"a\" \"b\"", "BadSyntax 1:32"),
         ("@g = global i32 0, \"a\"=b", "BadSyntax 1:24"),
         ("@g = global i32 0, q(", "BadSyntax 1:22"),
