@@ -170,6 +170,10 @@ fn declares_with_what_stands_around_them(rt: HostRuntime) -> Result<(), Fail> {
             "T v v i8;C 0;I @f:0(0+0) !bar !0 @g:1(0+0) @x:g2=0;",
         ),
         ("declare void @llvm.used()", "T v;I @llvm.used:0(0+0);"),
+        (
+            "declare $x void @f(i8 $y) %t = type i8",
+            "T v i8 i8;P 1;I @f:0(0+1) %t=2;",
+        ),
     ];
     check_rows(&rt, rt.alloc(), rows.as_slice())
 }
