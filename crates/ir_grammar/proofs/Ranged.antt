@@ -55,12 +55,15 @@ word_by ks text w1 w2 w3 w4 h = first (kind_in type_words text) refl h
     fourth : (o : Option Kind) → kind_in other_words text ≡ o → is_among ks (unwrap_or o (other_word text)) ≡ true → is_among ks (other_word text) ≡ true
     fourth None e h = h
     fourth (Some kind) e h = let p : is_among ks kind ≡ false = found_without ks other_words text kind w4 e in absurd (let q : is_among ks kind ≡ true = h in cc)
+
     third : (o : Option Kind) → kind_in body_words text ≡ o → is_among ks (unwrap_or (or_else o (kind_in other_words text)) (other_word text)) ≡ true → is_among ks (other_word text) ≡ true
     third None e h = fourth (kind_in other_words text) refl h
     third (Some kind) e h = let p : is_among ks kind ≡ false = found_without ks body_words text kind w3 e in absurd (let q : is_among ks kind ≡ true = h in cc)
+
     second : (o : Option Kind) → kind_in item_words text ≡ o → is_among ks (unwrap_or (or_else o (or_else (kind_in body_words text) (kind_in other_words text))) (other_word text)) ≡ true → is_among ks (other_word text) ≡ true
     second None e h = third (kind_in body_words text) refl h
     second (Some kind) e h = let p : is_among ks kind ≡ false = found_without ks item_words text kind w2 e in absurd (let q : is_among ks kind ≡ true = h in cc)
+
     first : (o : Option Kind) → kind_in type_words text ≡ o → is_among ks (unwrap_or (or_else o (or_else (kind_in item_words text) (or_else (kind_in body_words text) (kind_in other_words text)))) (other_word text)) ≡ true
         → is_among ks (other_word text) ≡ true
     first None e h = second (kind_in item_words text) refl h
@@ -99,6 +102,7 @@ other_count text h = go (is_int_type text) (starts_with nat_eq text (codes "$"))
     int n false true c h = cc
     int n false false true h = cc
     int n false false false h = cc
+
     go : (a b c : Bool) (n : ℕ) → is_among counts (cond a (int_kind n) (cond b k.DollarWord (cond c k.HexWord k.Word))) ≡ true → ⊥
     go true b c n h = int n (n == 0) (n == 1) (nat_le n 128) h
     go false true c n h = cc
@@ -153,6 +157,7 @@ mark_without ks text integer w v l o h = go (kind_in mark_table text) refl h
     last true true h = cc
     last true false h = cc
     last false b h = cc
+
     go : (o : Option Kind) → kind_in mark_table text ≡ o → is_among ks (unwrap_or o (cond (bytes_eq text (codes "<")) (cond integer k.Vector k.Less) k.OtherMark)) ≡ true → ⊥
     go None e h = last (bytes_eq text (codes "<")) integer h
     go (Some kind) e h = let p : is_among ks kind ≡ false = found_without ks mark_table text kind w e in let q : is_among ks kind ≡ true = h in cc

@@ -80,9 +80,13 @@ struct_kept c = (1, 16, (λ found st from good sound. kept_struct_type _ found s
 
 packed_kept : (c : Context) → Spares (base number) (packed_type c) 2
 unfolding packed_type
-packed_kept c =
-    (1, 16, (λ found st from good sound. kept_struct_type _ found st (size_of st + length found + 1) good sound (omega arith)),
-    then_kept (the k.Less) (braced_types c ◁ the k.Greater) 16 8 16 (omega arith) (first_kept (braced_types c) (the k.Greater) 16 16 8 (braced_kept c) (omega arith) (omega arith)) (omega arith), omega arith)
+packed_kept c = (
+  1,
+  16,
+  (λ found st from good sound. kept_struct_type _ found st (size_of st + length found + 1) good sound (omega arith)),
+  then_kept (the k.Less) (braced_types c ◁ the k.Greater) 16 8 16 (omega arith) (first_kept (braced_types c) (the k.Greater) 16 16 8 (braced_kept c) (omega arith) (omega arith)) (omega arith),
+  omega arith,
+)
 
 metadata_kept : Spares (base number) (act (λ t. add_type types.Metadata) (the k.MetadataWord)) 2
 metadata_kept = word_type (k.MetadataWord ∷ []) (λ t. types.Metadata) (λ t st from h. tt)
@@ -98,15 +102,26 @@ other_kept at.Parameter = tt
 
 pub type_kept : (c : Context) → Spares (base number) (type_rule c) 2
 unfolding type_rule
-type_kept c =
-    (int_kept, (word_type (k.Ptr ∷ []) (λ t. types.Ptr) (λ t st from h. tt), (word_type (k.Void ∷ []) (λ t. types.Void) (λ t st from h. tt),
-    (array_kept c, (struct_kept c, (packed_kept c, (named_kept, other_kept c)))))))
+type_kept c = (
+  int_kept,
+  (
+    word_type (k.Ptr ∷ []) (λ t. types.Ptr) (λ t st from h. tt),
+    (
+      word_type (k.Void ∷ []) (λ t. types.Void) (λ t st from h. tt),
+      (array_kept c, (struct_kept c, (packed_kept c, (named_kept, other_kept c)))),
+    ),
+  ),
+)
 
 array_rule_kept : (c : Context) → Spares (base number) (array_rule c) 0
 unfolding array_rule
-array_rule_kept c =
-    (1, 10, (λ v st from good sound. kept_type (types.Array (v.0).number v.1) st (size_of st + (0 + 0) + 1) good ((sound.0).count from.0, sound.1) (omega arith)),
-    (8, 10, omega arith, then_kept (the k.X) (type_rule c) 10 8 2 (omega arith) (type_kept c) (omega arith), omega arith), omega arith)
+array_rule_kept c = (
+  1,
+  10,
+  (λ v st from good sound. kept_type (types.Array (v.0).number v.1) st (size_of st + (0 + 0) + 1) good ((sound.0).count from.0, sound.1) (omega arith)),
+  (8, 10, omega arith, then_kept (the k.X) (type_rule c) 10 8 2 (omega arith) (type_kept c) (omega arith), omega arith),
+  omega arith,
+)
 
 comma_type_kept : (c : Context) → Spares (base number) (comma_type c) 1
 unfolding comma_type
@@ -145,9 +160,13 @@ word_kept ks = gone_kept (one ks) 8 (omega arith)
 
 part_kept : Spares nothing any_part 1
 unfolding any_part
-part_kept =
-    (fewer shared reading nothing in_parens 16 1 (omega arith) in_parens_kept, (fewer shared reading nothing in_squares 16 1 (omega arith) in_squares_kept,
-    (fewer shared reading nothing in_braces 16 1 (omega arith) in_braces_kept, fewer shared reading nothing (gone (one all_but_brackets)) 8 1 (omega arith) (word_kept all_but_brackets))))
+part_kept = (
+  fewer shared reading nothing in_parens 16 1 (omega arith) in_parens_kept,
+  (
+    fewer shared reading nothing in_squares 16 1 (omega arith) in_squares_kept,
+    (fewer shared reading nothing in_braces 16 1 (omega arith) in_braces_kept, fewer shared reading nothing (gone (one all_but_brackets)) 8 1 (omega arith) (word_kept all_but_brackets)),
+  ),
+)
 
 run_kept : Spares nothing any_run 0
 unfolding any_run
@@ -163,15 +182,20 @@ name_kept = (word_constant locals (λ t. constants.Local t.token) (λ t st. tt),
 
 word_value_kept : Spares (base constant) word_value 2
 unfolding word_value
-word_value_kept =
-    (word_constant (k.True ∷ []) (λ t. constants.Bool _) (λ t st. tt), (word_constant (k.False ∷ []) (λ t. constants.Bool _) (λ t st. tt),
-    (word_constant (k.Null ∷ []) (λ t. constants.Null) (λ t st. tt), word_constant (k.ZeroWord ∷ []) (λ t. constants.Zero) (λ t st. tt))))
+word_value_kept = (
+  word_constant (k.True ∷ []) (λ t. constants.Bool _) (λ t st. tt),
+  (
+    word_constant (k.False ∷ []) (λ t. constants.Bool _) (λ t st. tt),
+    (word_constant (k.Null ∷ []) (λ t. constants.Null) (λ t st. tt), word_constant (k.ZeroWord ∷ []) (λ t. constants.Zero) (λ t st. tt)),
+  ),
+)
 
 flag_kept : Spares nothing flag 1
 unfolding flag
-flag_kept =
-    (fewer shared reading nothing (gone (the k.Flag)) 8 1 (omega arith) (word_kept (k.Flag ∷ [])),
-    gone_kept (the k.InRange ⨾ in_parens) 1 (8, 16, omega arith, in_parens_kept, omega arith))
+flag_kept = (
+  fewer shared reading nothing (gone (the k.Flag)) 8 1 (omega arith) (word_kept (k.Flag ∷ [])),
+  gone_kept (the k.InRange ⨾ in_parens) 1 (8, 16, omega arith, in_parens_kept, omega arith),
+)
 
 flags_kept : Spares nothing flags 0
 unfolding flags
@@ -208,9 +232,13 @@ struct_constant_kept = (1, 16, (λ found st from good sound. kept_struct _ found
 
 packed_constant_kept : Spares (base constant) packed_constant 2
 unfolding packed_constant
-packed_constant_kept =
-    (1, 16, (λ found st from good sound. kept_struct _ found st (size_of st + length found + 1) good sound (omega arith)),
-    then_kept (the k.Less) (braced_constants ◁ the k.Greater) 16 8 16 (omega arith) (first_kept braced_constants (the k.Greater) 16 16 8 braced_constants_kept (omega arith) (omega arith)) (omega arith), omega arith)
+packed_constant_kept = (
+  1,
+  16,
+  (λ found st from good sound. kept_struct _ found st (size_of st + length found + 1) good sound (omega arith)),
+  then_kept (the k.Less) (braced_constants ◁ the k.Greater) 16 8 16 (omega arith) (first_kept braced_constants (the k.Greater) 16 16 8 braced_constants_kept (omega arith) (omega arith)) (omega arith),
+  omega arith,
+)
 
 pub constant_kept : Spares (base constant) constant_rule 2
 unfolding constant_rule
@@ -219,9 +247,13 @@ constant_kept =
 
 typed_kept : Spares (base element) typed_constant 1
 unfolding typed_constant
-typed_kept =
-    (0, 4, (λ v st from good sound. kept_same (base element) (record { ty = v.0; value = v.1 }) st (size_of st + (0 + 0) + 0) good (sound.0, sound.1) (omega arith)),
-    (2, 2, type_kept at.Plain, constant_kept, omega arith), omega arith)
+typed_kept = (
+  0,
+  4,
+  (λ v st from good sound. kept_same (base element) (record { ty = v.0; value = v.1 }) st (size_of st + (0 + 0) + 0) good (sound.0, sound.1) (omega arith)),
+  (2, 2, type_kept at.Plain, constant_kept, omega arith),
+  omega arith,
+)
 
 comma_constant_kept : Spares (base element) comma_constant 1
 unfolding comma_constant
@@ -237,9 +269,13 @@ elements_kept = list_kept element typed_constant more_elements typed_kept more_e
 
 comma_index_kept : Spares (base index) comma_index 1
 unfolding comma_index
-comma_index_kept =
-    (0, 1, (λ v st from good sound. kept_same (base index) (record { ty = v.0; value = integer_of v.1 }) st (size_of st + (0 + 0) + 0) good sound.0 (omega arith)),
-    then_kept (the k.Comma) (type_rule at.Plain ⨾ one integers) 1 8 10 (omega arith) (2, 8, type_kept at.Plain, omega arith, omega arith) (omega arith), omega arith)
+comma_index_kept = (
+  0,
+  1,
+  (λ v st from good sound. kept_same (base index) (record { ty = v.0; value = integer_of v.1 }) st (size_of st + (0 + 0) + 0) good sound.0 (omega arith)),
+  then_kept (the k.Comma) (type_rule at.Plain ⨾ one integers) 1 8 10 (omega arith) (2, 8, type_kept at.Plain, omega arith, omega arith) (omega arith),
+  omega arith,
+)
 
 indices_kept : Spares (list (base index)) indices 0
 unfolding indices
@@ -252,9 +288,13 @@ address_base_kept =
 
 address_kept : Spares (base constant) address_rule 0
 unfolding address_rule
-address_kept =
-    (1, 8, (λ v st from good sound. kept_address ((v.0).0) ((v.0).1) v.1 st (size_of st + ((0 + 0) + length v.1) + 1) good ((sound.0).0) ((sound.0).1) sound.1 (omega arith)),
-    (8, 0, address_base_kept, indices_kept, omega arith), omega arith)
+address_kept = (
+  1,
+  8,
+  (λ v st from good sound. kept_address ((v.0).0) ((v.0).1) v.1 st (size_of st + ((0 + 0) + length v.1) + 1) good ((sound.0).0) ((sound.0).1) sound.1 (omega arith)),
+  (8, 0, address_base_kept, indices_kept, omega arith),
+  omega arith,
+)
 
 alignment_kept : (c : Context) → Spares nothing (alignment c) 8
 unfolding alignment
@@ -303,9 +343,13 @@ maybe_local_kept = (omega arith, omega arith)
 
 parameter_kept : Spares (base parameter) parameter_rule 1
 unfolding parameter_rule
-parameter_kept =
-    (0, 2, (λ v st from good sound. kept_same (base parameter) (record { ty = v.0; name = token_in v.1 }) st (size_of st + (0 + items_in shared reading (option token) v.1) + 0) good sound.0 (omega arith)),
-    (2, 0, type_kept at.Declare, then_kept (attributes at.Parameter) maybe_local 0 0 0 (attributes_kept at.Parameter) maybe_local_kept (omega arith), omega arith), omega arith)
+parameter_kept = (
+  0,
+  2,
+  (λ v st from good sound. kept_same (base parameter) (record { ty = v.0; name = token_in v.1 }) st (size_of st + (0 + items_in shared reading (option token) v.1) + 0) good sound.0 (omega arith)),
+  (2, 0, type_kept at.Declare, then_kept (attributes at.Parameter) maybe_local 0 0 0 (attributes_kept at.Parameter) maybe_local_kept (omega arith), omega arith),
+  omega arith,
+)
 
 comma_parameter_kept : Spares (base parameter) comma_parameter 1
 unfolding comma_parameter

@@ -225,16 +225,18 @@ with_elements found st good h =
     let mid : Store = record st { elements = st.elements ++ found } in
     let longer : length (st.elements ++ found) ≡ length st.elements + length found = length-append st.elements found in
     let g : Grown st mid = record { types = omega arith; fields = omega arith; constants = omega arith; elements = omega (arith, longer); indices = omega arith; parameters = omega arith } in
-    let s = lists_stay st mid good g in
-    (record {
-      types = s.types;
-      fields = s.fields;
-      constants = s.constants;
-      elements = All-append (IsSoundElement (counts_of mid)) st.elements found s.elements (all_more (IsSoundElement (counts_of st)) (IsSoundElement (counts_of mid)) found (λ x p. p) (elements_sound found st h));
-      indices = s.indices;
-      parameters = s.parameters;
-      items = s.items;
-    }, g)
+    let s = lists_stay st mid good g in (
+      record {
+        types = s.types;
+        fields = s.fields;
+        constants = s.constants;
+        elements = All-append (IsSoundElement (counts_of mid)) st.elements found s.elements (all_more (IsSoundElement (counts_of st)) (IsSoundElement (counts_of mid)) found (λ x p. p) (elements_sound found st h));
+        indices = s.indices;
+        parameters = s.parameters;
+        items = s.items;
+      },
+      g,
+    )
 
 pub kept_array : (found : List TypedConstant) (st : Store) (budget : ℕ) → IsSoundStore st → SoundValue shared reading (list (base element)) found st → size_of st + length found + 1 ≤ budget
     → Kept shared reading (base constant) (add_array found st).0 st (add_array found st).1 budget

@@ -80,7 +80,7 @@ abbrev pub items_of : {A : Type 0} → Option (A × List A) → List A
 items_of None = []
 items_of (Some x) = x.0 ∷ x.1
 
--- the derivations of a grammar, whose names have these rules: the tokens, with fewer than this many brackets around one
+-- the derivations of a grammar, whose names have these rules: the tokens, with at most this many brackets around one
 -- another, are of the rule, build the value, and take the store from the one to the other
 module _ (S : Signature) (rules : (n : S.Name) → Rule S (S.sort_of n)) where
   pub data Derives : ℕ → (s : Sort S.Base) → Rule S s → List Terminal → S.Store → Value S s → S.Store → Type 0 where

@@ -5,7 +5,7 @@ pub enum Context {
     Plain,
     /// Before `global` or `constant`: an alignment is at most 16.
     Global,
-    /// Behind a global's initializer, as `Global`; a `section` there is no attribute but a part of its own.
+    /// Behind a global's initializer, as `Global`; a `section` there, which may have a string behind it, is a part of its own.
     GlobalTail,
     /// In a declare: `metadata` is a type, `external` and `extern_weak` are attributes.
     Declare,

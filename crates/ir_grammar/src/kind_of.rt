@@ -582,11 +582,7 @@ fn text_of(alloc: Global, tokens: &Tokens, end: Place) -> Result<Vec<Terminal>, 
 
 /// The tokens as the grammar sees them, and behind them the end of the text, which stands at this place. The only error is
 /// want of memory.
-pub fn terminals(
-    alloc: Global,
-    tokens: &Tokens,
-    end: Place,
-) -> Result<Vec<Terminal>, OutOfMemory>
+pub fn terminals(alloc: Global, tokens: &Tokens, end: Place) -> Result<Vec<Terminal>, OutOfMemory>
     ensures text { IfOk result (λ found. found.items ≡ text_of tokens.now.source tokens.now.tokens end) }
     ensures ranges { IfOk result (λ found. All IsInRange found.items) }
 {

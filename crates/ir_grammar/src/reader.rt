@@ -5,8 +5,8 @@ ghost use Rattle.ir_grammar.specs.Grammar.{Gives, deeper};
 ghost use Rattle.ir_grammar.specs.Spelled.{store_of, added, with_rest, add_type, add_struct_type, add_constant, add_array, add_struct, add_address, add_item, add_declare};
 
 use crate::{
-    Failure, Flaw, Kind, SpelledConstant, SpelledItem, SpelledParameter, SpelledType, Terminal, TypedConstant,
-    TypedIndex,
+    Failure, Flaw, Kind, SpelledConstant, SpelledItem, SpelledParameter, SpelledType, Terminal,
+    TypedConstant, TypedIndex,
 };
 use ir_core::{Fault, Limit, Token};
 use std::alloc::Global;

@@ -35,9 +35,12 @@ impl<'a> Reader<'a> {
         match self.rest {
             [] => false,
             [next, ..] => {
-                !next
-                    .kind
-                    .is_among(&[Kind::CloseParen, Kind::CloseSquare, Kind::CloseBrace, Kind::End])
+                !next.kind.is_among(&[
+                    Kind::CloseParen,
+                    Kind::CloseSquare,
+                    Kind::CloseBrace,
+                    Kind::End,
+                ])
             }
         }
     }

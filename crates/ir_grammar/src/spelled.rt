@@ -96,7 +96,10 @@ pub enum SpelledItem {
     /// A source file name, a target or a group of attributes: nothing that a module keeps.
     Skipped,
     /// A type by its name, the local, and the number of what it stands for.
-    Type { name: Token, ty: usize },
+    Type {
+        name: Token,
+        ty: usize,
+    },
     /// A global variable, or a constant, by its name, with the numbers of its type and of its first value.
     Global {
         name: Token,
@@ -115,7 +118,11 @@ pub enum SpelledItem {
         count: usize,
     },
     /// A metadata node, by its number.
-    Node { number: Token },
+    Node {
+        number: Token,
+    },
     /// A named list of metadata, by its name.
-    NodeList { name: Token },
+    NodeList {
+        name: Token,
+    },
 }

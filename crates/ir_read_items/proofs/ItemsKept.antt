@@ -20,7 +20,7 @@ use Rattle.ir_grammar.specs.SoundStore.{IsSoundItem, counts_of, size_of, IsSound
 use Rattle.ir_grammar.proofs.Kept.{SoundValue, items_in, fewer}
 use Rattle.ir_grammar.proofs.SoundSteps.{reading, kept_type, kept_item, kept_declare}
 use Rattle.ir_grammar.proofs.SharedKept.{Spares, gone_kept, then_kept, first_kept, type_kept, constant_kept, attribute_kept, attributes_kept, parameters_kept, in_parens_kept, in_squares_kept, in_braces_kept, word_kept}
-use Rattle.ir_read_items.specs.Items.{equals_text, source_filename, layout_text, layout, triple, target_line, target, attribute_group, type_body, type_item, global_head, section, attachment, global_part, comma_part, global_tail, global_value, global_item, packed_any, used_value, used_item, attachments, declare_attachment, declare_part, declare_tail, declare_head, declare_parameters, declare_item, bang_node, named_node, node, maybe_distinct, node_item, list_item, item, free_items, next_items, maybe_next_items, declare_group, declare_groups, module_rule}
+use Rattle.ir_read_items.specs.Items.{equals_text, source_filename, layout_text, layout, triple, target_line, target, attribute_group, type_body, type_item, global_head, section_rest, section, attachment, global_part, comma_part, global_tail, global_value, global_item, packed_any, used_value, used_item, attachments, declare_attachment, declare_part, declare_tail, declare_head, declare_parameters, declare_item, bang_node, named_node, node, maybe_distinct, node_item, list_item, item, free_items, next_items, maybe_next_items, declare_group, declare_groups, module_rule}
 
 -- an item that is added behind a rule
 item_kept : {s : Sort Base} (a : Production s) (f : Value shared s → SpelledItem) → ((x : Value shared s) (st : Store) → SoundValue shared reading s x st → IsSoundItem (counts_of st) (f x)) → Spares s a 2
@@ -80,9 +80,13 @@ head_kept =
     then_kept (the k.Equals) (attributes at.Global ▷ (one (k.GlobalWord ∷ k.ConstantWord ∷ []) ⨾ type_rule at.Plain)) 8 8 8 (omega arith)
     (then_kept (attributes at.Global) (one (k.GlobalWord ∷ k.ConstantWord ∷ []) ⨾ type_rule at.Plain) 8 0 8 (attributes_kept at.Global) (8, 2, omega arith, type_kept at.Plain, omega arith) (omega arith)) (omega arith)
 
+section_rest_kept : Spares nothing section_rest 1
+unfolding section_rest
+section_rest_kept = (fewer shared reading nothing in_parens 16 1 (omega arith) in_parens_kept, fewer shared reading nothing (gone (one texts)) 8 1 (omega arith) (word_kept texts))
+
 section_kept : Spares nothing section 1
 unfolding section
-section_kept = gone_kept (the k.Section ⨾ one texts) 1 (8, 8, omega arith, omega arith, omega arith)
+section_kept = gone_kept (the k.Section ⨾ optional section_rest) 1 (8, 0, omega arith, (omega arith, section_rest_kept), omega arith)
 
 attachment_kept : Spares nothing attachment 1
 unfolding attachment
@@ -153,9 +157,13 @@ declare_parameters_kept = first_kept parameters declare_tail 16 16 0 parameters_
 
 declare_kept : Spares nothing declare_item 1
 unfolding declare_item
-declare_kept =
-    (1, 2, (λ v st from good sound. kept_declare ((v.1).0).token v.0 ((v.1).1) st (size_of st + (0 + (0 + length ((v.1).1))) + 1) good sound.0 ((sound.1).1) (omega arith)),
-    (8, 8, declare_head_kept, (8, 16, omega arith, declare_parameters_kept, omega arith), omega arith), omega arith)
+declare_kept = (
+  1,
+  2,
+  (λ v st from good sound. kept_declare ((v.1).0).token v.0 ((v.1).1) st (size_of st + (0 + (0 + length ((v.1).1))) + 1) good sound.0 ((sound.1).1) (omega arith)),
+  (8, 8, declare_head_kept, (8, 16, omega arith, declare_parameters_kept, omega arith), omega arith),
+  omega arith,
+)
 
 bang_kept : Spares nothing bang_node 8
 unfolding bang_node

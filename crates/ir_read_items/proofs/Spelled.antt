@@ -134,8 +134,8 @@ unfolding module_rule
 whole_module levels front rest body last store d none w =
     let (xs, more, e, free, (ys, one_more, e', groups, (t, e'', h))) = says levels nothing module_rule front nothing_read tt store d in
     let split : front ++ rest ≡ (xs ++ ys) ++ t ∷ rest =
-        ap (λ v. v ++ rest) (e ∙ ap (λ v. xs ++ v) (e' ∙ ap (λ v. ys ++ v) e''))
-        ∙ (append_assoc xs (ys ++ t ∷ []) rest ∙ (ap (λ v. xs ++ v) (append_assoc ys (t ∷ []) rest) ∙ sym (append_assoc xs ys (t ∷ rest)))) in
+    ap (λ v. v ++ rest) (e ∙ ap (λ v. xs ++ v) (e' ∙ ap (λ v. ys ++ v) e''))
+    ∙ (append_assoc xs (ys ++ t ∷ []) rest ∙ (ap (λ v. xs ++ v) (append_assoc ys (t ∷ []) rest) ∙ sym (append_assoc xs ys (t ∷ rest)))) in
     nothing_behind (xs ++ ys) t rest body last none h (w ∙ split)
 
 -- a text that is read is a module

@@ -15,7 +15,7 @@ use Rattle.ir_grammar.specs.Grammar.{production, nesting_limit}
 use Rattle.ir_read_items.specs.Items.{module_rule}
 use Rattle.ir_read_items.specs.ItemReading.{nothing_read, spelled}
 
--- the tokens are a module, with fewer than this many brackets around one another, and this is what it spells
+-- the tokens are a module, with at most this many brackets around one another, and this is what it spells
 abbrev pub IsModule : ℕ → List Terminal → Store → Type 0
 IsModule levels tokens store = Derives shared production levels nothing module_rule tokens nothing_read tt store
 

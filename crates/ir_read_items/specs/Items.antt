@@ -62,9 +62,13 @@ type_item = act (λ v. add_item (items.Type (v.0).token v.1)) (one locals ⨾ (t
 unfoldable pub global_head : Production (pair token (base number))
 global_head = the k.Equals ▷ (attributes at.Global ▷ (one (k.GlobalWord ∷ k.ConstantWord ∷ []) ⨾ type_rule at.Plain))
 
--- section string
+-- ( any ) | string
+unfoldable pub section_rest : Production nothing
+section_rest = in_parens ∣ gone (one texts)
+
+-- section string | section | section ( any ): the last two are attributes
 unfoldable pub section : Production nothing
-section = gone (the k.Section ⨾ one texts)
+section = gone (the k.Section ⨾ optional section_rest)
 
 -- metaname metanum
 unfoldable pub attachment : Production nothing

@@ -1,6 +1,6 @@
 ghost use Rattle.std.specs.Prelude.{◌≡◌, [], ◌∷◌};
 ghost use Rattle.ir_grammar.specs.Grammar.{Reads};
-ghost use Rattle.ir_read_items.specs.Items.{global_head, section, attachment, global_part, comma_part, global_tail, global_value, global_item, packed_any, used_value, used_item};
+ghost use Rattle.ir_read_items.specs.Items.{global_head, section_rest, section, attachment, global_part, comma_part, global_tail, global_value, global_item, packed_any, used_value, used_item};
 
 use ir_grammar::{Context, Failure, Kind, Reader, SpelledItem, Terminal};
 
@@ -16,13 +16,27 @@ fn global_head(reader: &mut Reader, levels: u32) -> Result<(Terminal, usize), Fa
     Ok((word, ty))
 }
 
-/// section string
-#[tactic(auto, unfolding(crate::specs::Items::section))]
+/// ( any ) | string
+#[tactic(auto, unfolding(crate::specs::Items::section_rest, ir_grammar::specs::Skipped::in_parens))]
+fn section_rest(reader: &mut Reader, levels: u32) -> Result<(), Failure>
+    ensures { Reads (λ x. x) result reader.old reader.new levels section_rest }
+{
+    if reader.next_is(Kind::OpenParen) {
+        return reader.in_parens(levels);
+    }
+    reader.text()?;
+    Ok(())
+}
+
+/// section string | section | section ( any ): the last two are attributes
+#[tactic(auto, unfolding(crate::specs::Items::section, crate::specs::Items::section_rest, ir_grammar::specs::Skipped::in_parens))]
 fn section(reader: &mut Reader, levels: u32) -> Result<(), Failure>
     ensures { Reads (λ x. x) result reader.old reader.new levels section }
 {
     reader.take(Kind::Section)?;
-    reader.text()?;
+    if reader.next_among(&[Kind::OpenParen, Kind::Text, Kind::OtherLayout]) {
+        section_rest(reader, levels)?;
+    }
     Ok(())
 }
 

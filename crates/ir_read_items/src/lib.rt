@@ -12,3 +12,6 @@ mod whole;
 
 pub use laws::texts_are_modules;
 pub use whole::read_items;
+
+#[cfg(test)]
+mod tests;
