@@ -1,11 +1,10 @@
 -- The loops over items and their parts.
-use Rattle.std.proofs.Common.{ℕ, List, [], ◌∷◌, ◌++◌, length, ◌<◌, ◌≡◌, refl, sym, ◌∙◌, ap, Bool, true, false, cond, ◌||◌, Ok, Err}
+use Rattle.std.proofs.Common.{ℕ, List, [], ◌∷◌, ◌++◌, length, ◌<◌, ◌≡◌, refl, ◌∙◌, ap, Bool, true, false, cond, ◌||◌, Ok, Err}
 use Rattle.ir_grammar.specs.declared.context.Context.TheVariants as at
 use Rattle.ir_grammar.specs.declared.kind.Kind.{Kind}
 use Rattle.ir_grammar.specs.declared.kind.Kind.TheVariants as k
 use Rattle.ir_grammar.specs.declared.terminal.Terminal.{Terminal}
 use Rattle.ir_grammar.specs.declared.terminal.Flaw.{Flaw}
-use Rattle.ir_grammar.specs.Kinds.{is_same, is_among}
 use Rattle.ir_grammar.specs.Reading.{starts, first, is_empty}
 use Rattle.ir_grammar.specs.Rules.{nothing}
 use Rattle.ir_grammar.specs.Words.{meta_names}
@@ -16,8 +15,8 @@ use Rattle.ir_grammar.specs.Attributes.{attribute}
 use Rattle.ir_grammar.proofs.First.{shortens}
 use Rattle.ir_grammar.proofs.Loops.{skip_more, skip_done, skip_failed}
 use Rattle.ir_grammar.proofs.AttributeLists.{attribute_full}
-use Rattle.ir_grammar.proofs.KindSets.{starts-append, is_among-append}
-use Rattle.ir_read_items.specs.Items.{equals_text, source_filename, layout_text, layout, triple, target_line, target, attribute_group, type_body, type_item, global_head, section, attachment, global_part, comma_part, global_tail, global_value, global_item, packed_any, used_value, used_item, attachments, declare_attachment, declare_part, declare_tail, declare_head, declare_parameters, declare_item, bang_node, named_node, node, maybe_distinct, node_item, list_item, item, free_items, next_items, maybe_next_items, declare_group, declare_groups, module_rule}
+use Rattle.ir_grammar.proofs.KindSets.{starts-append}
+use Rattle.ir_read_items.specs.Items.{source_filename, target, attribute_group, type_item, attachment, comma_part, global_tail, global_item, used_item, attachments, declare_attachment, declare_part, declare_tail, declare_head, declare_item, node_item, list_item, item, free_items, next_items, declare_group, declare_groups}
 
 pub tail_more : (levels : ℕ) (ts : List Terminal) (st : Store) (x : Unit {0} × List Terminal × Store)
     → starts (k.Comma ∷ []) ts ≡ true → read levels comma_part ts st ≡ Ok x → read levels global_tail ts st ≡ read levels global_tail x.1 x.2

@@ -1,5 +1,5 @@
 -- Reading the items of a module keeps what was read sound.
-use Rattle.std.proofs.Common.{ℕ, ◌+◌, List, [], ◌∷◌, length, ◌≤◌, ◌<◌, ◌≡◌, arith}
+use Rattle.std.proofs.Common.{◌+◌, List, [], ◌∷◌, length, arith}
 use Rattle.ir_grammar.specs.declared.context.Context.TheVariants as at
 use Rattle.ir_grammar.specs.declared.kind.Kind.{Kind}
 use Rattle.ir_grammar.specs.declared.kind.Kind.TheVariants as k
@@ -7,16 +7,16 @@ use Rattle.ir_grammar.specs.declared.spelled.SpelledType.TheVariants as types
 use Rattle.ir_grammar.specs.declared.spelled.SpelledItem.{SpelledItem}
 use Rattle.ir_grammar.specs.declared.spelled.SpelledItem.TheVariants as items
 use Rattle.ir_grammar.specs.Kinds.{is_same}
-use Rattle.ir_grammar.specs.Rules.{Sort, nothing, token, base, pair, list, option, Value, one, ◌⨾◌, ◌∣◌, optional, many, act, the, gone, ◌▷◌, ◌◁◌}
-use Rattle.ir_grammar.specs.Words.{texts, globals, meta_names, locals}
+use Rattle.ir_grammar.specs.Rules.{Sort, nothing, token, base, pair, list, Value, one, ◌⨾◌, optional, many, act, the, gone, ◌▷◌}
+use Rattle.ir_grammar.specs.Words.{texts, meta_names, locals}
 use Rattle.ir_grammar.specs.Names.{Base, number, constant, parameter, shared, Production}
 use Rattle.ir_grammar.specs.Spelled.{Store, add_type, add_item}
 use Rattle.ir_grammar.specs.Skipped.{in_squares, in_braces, in_parens}
 use Rattle.ir_grammar.specs.Types.{type_rule}
 use Rattle.ir_grammar.specs.Constants.{constant_rule}
-use Rattle.ir_grammar.specs.Attributes.{attribute, attributes}
+use Rattle.ir_grammar.specs.Attributes.{attributes}
 use Rattle.ir_grammar.specs.Parameters.{parameters}
-use Rattle.ir_grammar.specs.SoundStore.{IsSoundItem, counts_of, size_of, IsSoundStore}
+use Rattle.ir_grammar.specs.SoundStore.{IsSoundItem, counts_of, size_of}
 use Rattle.ir_grammar.proofs.Kept.{SoundValue, items_in, fewer}
 use Rattle.ir_grammar.proofs.SoundSteps.{reading, kept_type, kept_item, kept_declare}
 use Rattle.ir_grammar.proofs.SharedKept.{Spares, gone_kept, then_kept, first_kept, type_kept, constant_kept, attribute_kept, attributes_kept, parameters_kept, in_parens_kept, in_squares_kept, in_braces_kept, word_kept}

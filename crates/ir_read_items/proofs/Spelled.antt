@@ -1,21 +1,18 @@
 -- What was spelled, from the outcome of reading.
-use Rattle.std.proofs.Common.{ℕ, ◌*◌, ◌+◌, List, [], ◌∷◌, ◌++◌, length, ◌≤◌, ◌≡◌, refl, sym, ◌∙◌, ap, subst, true, false, Ok, Err, Result, All, arith, length-append, append-nil, append_assoc}
+use Rattle.std.proofs.Common.{ℕ, ◌*◌, List, [], ◌∷◌, ◌++◌, length, ◌≤◌, ◌≡◌, refl, sym, ◌∙◌, ap, subst, true, false, Ok, Err, All, arith, length-append, append-nil, append_assoc}
 use Rattle.std.proofs.lemmas.List.Elements.{All-nil}
 use Rattle.ir_core.specs.declared.token.Token.{Token}
-use Rattle.ir_core.specs.declared.token.TokenKind.{TokenKind}
-use Rattle.ir_core.specs.declared.token.TokenKind.TheVariants as tokens
 use Rattle.ir_core.specs.declared.refusals.Place.{Place}
-use Rattle.ir_core.specs.Tokens.{bytes_of}
 use Rattle.ir_grammar.specs.declared.kind.Kind.TheVariants as k
 use Rattle.ir_grammar.specs.declared.terminal.Terminal.{Terminal}
 use Rattle.ir_grammar.specs.declared.terminal.Flaw.{Flaw}
-use Rattle.ir_grammar.specs.Kinds.{is_same, is_among}
+use Rattle.ir_grammar.specs.Kinds.{is_among}
 use Rattle.ir_grammar.specs.Reading.{Outcome, ◌>>=◌, starts}
 use Rattle.ir_grammar.specs.Rules.{Sort, Value, nothing, one, ◌⨾◌, act, Derives, one_token, both, left, right, absent, present, done, again, inner, acted}
 use Rattle.ir_grammar.specs.Conditions.{ends}
 use Rattle.ir_grammar.specs.Names.{Base, Production, shared}
 use Rattle.ir_grammar.specs.Spelled.{Store}
-use Rattle.ir_grammar.specs.KindOf.{text_of, terminals_of, end_of_text, terminal_of}
+use Rattle.ir_grammar.specs.KindOf.{text_of, terminals_of, end_of_text}
 use Rattle.ir_grammar.specs.Grammar.{production, read, nesting_limit}
 use Rattle.ir_grammar.specs.SoundStore.{IsInRange, IsSoundStore, size_of}
 use Rattle.ir_grammar.proofs.Sound.{all_sound}
@@ -25,7 +22,7 @@ use Rattle.ir_grammar.proofs.Kept.{Each, each_of_all, kept}
 use Rattle.ir_grammar.proofs.Ranged.{text_has_no_end}
 use Rattle.ir_grammar.proofs.SoundSteps.{reading}
 use Rattle.ir_grammar.proofs.SharedKept.{names_kept}
-use Rattle.ir_read_items.specs.Items.{module_rule, free_items, declare_groups}
+use Rattle.ir_read_items.specs.Items.{module_rule, declare_groups}
 use Rattle.ir_read_items.specs.ItemReading.{nothing_read, spelled}
 use Rattle.ir_read_items.specs.ItemLaws.{IsModule}
 use Rattle.ir_read_items.proofs.ItemsKept.{module_kept}

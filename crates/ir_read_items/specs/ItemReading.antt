@@ -1,10 +1,10 @@
 -- What reading the items of a text answers.
-use Rattle.std.specs.Prelude.{List, [], ◌≡◌, Result, Ok, Err}
+use Rattle.std.specs.Prelude.{List, [], Result, Ok}
 use Rattle.ir_grammar.specs.declared.terminal.Terminal.{Terminal}
 use Rattle.ir_grammar.specs.declared.terminal.Flaw.{Flaw}
 use Rattle.ir_grammar.specs.declared.terminal.Failure.{Failure}
 use Rattle.ir_grammar.specs.declared.reader.Spellings.{Spellings}
-use Rattle.ir_grammar.specs.Reading.{Outcome, ◌>>=◌}
+use Rattle.ir_grammar.specs.Reading.{◌>>=◌}
 use Rattle.ir_grammar.specs.Spelled.{Store, store_of}
 use Rattle.ir_grammar.specs.Grammar.{Gives, read, nesting_limit}
 use Rattle.ir_read_items.specs.Items.{module_rule}

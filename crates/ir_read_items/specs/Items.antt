@@ -4,11 +4,10 @@ use Rattle.std.specs.Prelude.{List, [], ◌∷◌}
 use Rattle.ir_grammar.specs.declared.context.Context.TheVariants as at
 use Rattle.ir_grammar.specs.declared.kind.Kind.{Kind}
 use Rattle.ir_grammar.specs.declared.kind.Kind.TheVariants as k
-use Rattle.ir_grammar.specs.declared.terminal.Terminal.{Terminal}
 use Rattle.ir_grammar.specs.declared.spelled.SpelledType.TheVariants as types
 use Rattle.ir_grammar.specs.declared.spelled.SpelledItem.TheVariants as items
 use Rattle.ir_grammar.specs.Kinds.{is_same}
-use Rattle.ir_grammar.specs.Rules.{token, base, pair, list, nothing, one, refused, ◌⨾◌, ◌∣◌, optional, many, act, the, just, gone, ◌▷◌, ◌◁◌}
+use Rattle.ir_grammar.specs.Rules.{token, base, pair, list, nothing, one, refused, ◌⨾◌, ◌∣◌, optional, many, act, the, gone, ◌▷◌, ◌◁◌}
 use Rattle.ir_grammar.specs.Names.{Production, number, constant, parameter}
 use Rattle.ir_grammar.specs.Words.{texts, globals, meta_names, locals, refused_words}
 use Rattle.ir_grammar.specs.Spelled.{add_type, add_item, add_declare}
