@@ -1,7 +1,6 @@
 -- What every step of a derivation keeps, the whole keeps: a store stays sound, it grows, values are sound in it, and it
 -- grows by no more than a multiple of the tokens.
-use Rattle.std.proofs.Common.{ℕ, zero, suc, ◌+◌, ◌*◌, List, [], ◌∷◌, ◌++◌, length, ◌≤◌, ◌≡◌, refl, true, Option, None, Some, All, ◌⊎◌, inl, inr, arith, length-append}
-use Rattle.ir_grammar.specs.declared.kind.Kind.{Kind}
+use Rattle.std.proofs.Common.{ℕ, zero, suc, ◌+◌, ◌*◌, List, [], ◌∷◌, ◌++◌, length, ◌≤◌, ◌≡◌, true, None, Some, All, ◌⊎◌, inl, inr, arith, length-append}
 use Rattle.ir_grammar.specs.declared.terminal.Terminal.{Terminal}
 use Rattle.ir_grammar.specs.Kinds.{is_among}
 use Rattle.ir_grammar.specs.Rules.{Sort, nothing, token, base, pair, option, list, Signature, Value, Rule, one, refused, ◌⨾◌, ◌∣◌, optional, many, between, act, Derives, one_token, both, left, right, absent, present, done, again, inner, acted}

@@ -1,5 +1,5 @@
 -- The number of each token is in the range that its kind says.
-use Rattle.std.proofs.Common.{ℕ, ◌+◌, ◌^◌, List, [], ◌∷◌, ◌++◌, length, drop, get_or, ◌≤◌, ◌<◌, ◌≡◌, refl, sym, ◌∙◌, ap, Bool, true, false, not, cond, ◌&&◌, ◌||◌, Option, None, Some, All, arith}
+use Rattle.std.proofs.Common.{ℕ, ◌^◌, List, [], ◌∷◌, drop, ◌≤◌, ◌<◌, ◌≡◌, refl, sym, ◌∙◌, ap, Bool, true, false, not, cond, ◌&&◌, ◌||◌, Option, None, Some, All, arith}
 use Rattle.std.specs.Prelude.{nat_le, nat_lt, nat_eq, codes, ◌==◌, unwrap_or}
 use Rattle.std.specs.List.{list_all, starts_with}
 use Rattle.std.specs.Str.{bytes_eq}
@@ -17,7 +17,7 @@ use Rattle.ir_grammar.specs.declared.kind.Kind.{Kind}
 use Rattle.ir_grammar.specs.declared.kind.Kind.TheVariants as k
 use Rattle.ir_grammar.specs.Kinds.{is_same, is_among}
 use Rattle.ir_grammar.specs.Words.{counts}
-use Rattle.ir_grammar.specs.KindOf.{Table, kind_in, type_words, item_words, body_words, other_words, or_else, is_int_type, int_kind, number_of, other_word, word_kind, count_kind, digits_of, integer_kind, mark_table, mark_kind, local_kind, meta_name_kind, global_kind, text_kind, token_kind, token_number, equals_follows, integer_follows, terminal_of, terminals_of, end_of_text, text_of}
+use Rattle.ir_grammar.specs.KindOf.{Table, kind_in, type_words, item_words, body_words, other_words, or_else, is_int_type, int_kind, number_of, other_word, word_kind, count_kind, digits_of, integer_kind, mark_table, mark_kind, token_kind, token_number, equals_follows, integer_follows, terminal_of, terminals_of, end_of_text, text_of}
 use Rattle.ir_grammar.specs.SoundStore.{IsInRange}
 use Rattle.ir_grammar.proofs.KindSets.{both_true, not_true}
 use Rattle.ir_grammar.proofs.Kept.{Each}

@@ -1,5 +1,5 @@
 -- Reading by the shared rules keeps what was read sound.
-use Rattle.std.proofs.Common.{ℕ, ◌+◌, List, [], ◌∷◌, length, ◌≤◌, ◌<◌, ◌≡◌, refl, true, Option, None, Some, arith}
+use Rattle.std.proofs.Common.{ℕ, ◌+◌, List, [], ◌∷◌, length, ◌≤◌, ◌≡◌, true, Option, None, Some, arith}
 use Rattle.ir_grammar.specs.declared.context.Context.{Context}
 use Rattle.ir_grammar.specs.declared.context.Context.TheVariants as at
 use Rattle.ir_grammar.specs.declared.kind.Kind.{Kind}
@@ -8,8 +8,8 @@ use Rattle.ir_grammar.specs.declared.terminal.Terminal.{Terminal}
 use Rattle.ir_grammar.specs.declared.spelled.SpelledType.TheVariants as types
 use Rattle.ir_grammar.specs.declared.spelled.SpelledConstant.TheVariants as constants
 use Rattle.ir_grammar.specs.Kinds.{is_among}
-use Rattle.ir_grammar.specs.Rules.{Sort, nothing, token, base, pair, option, list, Value, Rule, one, ◌⨾◌, ◌∣◌, optional, many, act, the, just, gone, ◌▷◌, ◌◁◌, items_of}
-use Rattle.ir_grammar.specs.Words.{counts, integers, locals, globals, texts, all_but_brackets}
+use Rattle.ir_grammar.specs.Rules.{Sort, nothing, token, base, pair, option, list, Value, one, ◌⨾◌, ◌∣◌, optional, many, act, the, just, gone, ◌▷◌, ◌◁◌, items_of}
+use Rattle.ir_grammar.specs.Words.{integers, locals, globals, texts, all_but_brackets}
 use Rattle.ir_grammar.specs.Names.{Base, Name, number, constant, element, index, parameter, array_inside, types_inside, elements_inside, address_inside, parameters_inside, any_inside, sort_of, shared, Production}
 use Rattle.ir_grammar.specs.Spelled.{Store, integer_of, add_type, add_constant}
 use Rattle.ir_grammar.specs.Grammar.{production}
@@ -19,7 +19,7 @@ use Rattle.ir_grammar.specs.Attributes.{alignment, word_attribute, align_attribu
 use Rattle.ir_grammar.specs.Parameters.{maybe_local, token_in, parameter_rule, comma_parameter, more_parameters, parameters_rule, parameters}
 use Rattle.ir_grammar.specs.Constants.{integer_value, name_value, word_value, flag, flags, address_parens, address_value, value_rule, squared_constants, braced_constants, array_constant, struct_constant, packed_constant, constant_rule, typed_constant, comma_constant, more_elements, elements_rule, comma_index, indices, address_base, address_rule}
 use Rattle.ir_grammar.specs.SoundStore.{IsInRange, IsSoundStore, IsSoundType, IsSoundConstant, counts_of, size_of}
-use Rattle.ir_grammar.proofs.Kept.{SoundValue, items_in, From, Kept, Keeps, fewer}
+use Rattle.ir_grammar.proofs.Kept.{SoundValue, items_in, Kept, Keeps, fewer}
 use Rattle.ir_grammar.proofs.SoundSteps.{reading, kept_same, kept_type, kept_struct_type, kept_constant, kept_array, kept_struct, kept_address}
 
 -- a shared rule keeps all, with so much to spare
