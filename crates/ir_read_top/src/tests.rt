@@ -6,10 +6,10 @@ use std::alloc::Global;
 use std::process::Abort;
 use std::test::Fail;
 
+mod large_texts;
+mod metadata_module;
 mod refusals;
 mod spelled_modules;
-mod metadata_module;
-mod large_texts;
 
 /// The line that a refusal prints, without its LF.
 fn refused(alloc: Global, text: &[u8]) -> Result<String, Fail> {
@@ -72,7 +72,11 @@ fn shown_part(alloc: Global, part: Part) -> Result<String, Fail> {
 fn shown_global(alloc: Global, global: &GlobalVar) -> Result<String, Fail> {
     let name = std::str::from_utf8(global.name.as_slice())?;
     let (ty, line, column) = (global.ty, global.place.line, global.place.column);
-    let word = if global.constant { "constant" } else { "global" };
+    let word = if global.constant {
+        "constant"
+    } else {
+        "global"
+    };
     let mut out = format!(in alloc; "{name} {word} #{ty} at {line}:{column}")?;
     if !global.fits {
         out.push_str(" breaks a rule")?;

@@ -62,7 +62,10 @@ fn a_module_keeps_its_metadata_nodes(rt: HostRuntime) -> Result<(), Fail> {
     for node in module.meta.as_slice() {
         found.push_str(shown_node(rt.alloc(), node)?.as_str())?;
     }
-    assert_eq!(rt; found.as_str(), "F0:0 s- i- f- list.c|S0:0 s- i- f0 main|L4:3 s1 i- f- |L5:21 s1 i- f- |L8:5 s1 i- f- |L9:5 s1 i- f- |L11:3 s1 i- f- |");
+    assert_eq!(rt;
+        found.as_str(),
+        "F0:0 s- i- f- list.c|S0:0 s- i- f0 main|L4:3 s1 i- f- |L5:21 s1 i- f- |L8:5 s1 i- f- |L9:5 s1 i- f- |L11:3 s1 i- f- |"
+    );
     assert_eq!(rt; module.declares.len(), 3);
     assert!(rt; module.globals.is_empty());
     Ok(())
