@@ -1,4 +1,5 @@
 pub mod Assembled
+pub mod OneAnswer
 pub mod Phases
 pub mod ResolvedModule
 pub mod ResolvedTypes

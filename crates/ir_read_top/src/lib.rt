@@ -6,10 +6,12 @@
 mod assembly;
 mod declared;
 mod global_variables;
+mod laws;
 mod marks;
 mod pairs;
 mod reading;
 
+pub use laws::each_text_has_one_answer;
 pub use reading::read;
 
 #[cfg(test)]
