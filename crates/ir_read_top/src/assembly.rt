@@ -125,11 +125,11 @@ fn assembled(
 }
 
 /// The classes of the types of a module: two that don't hold themselves are one exactly where these are equal.
-fn classes_of(alloc: Global, module: &Module, found: &Spellings) -> Result<Vec<u64>, OutOfMemory>
-    ensures { IfOk result (λ classes. AreClasses module.now.types module.now.fields (named_marks (store_of found.now).items (store_of found.now).types) classes.items) }
+fn classes_of(alloc: Global, bare: &Module, found: &Spellings) -> Result<Vec<u64>, OutOfMemory>
+    ensures { IfOk result (λ classes. AreClasses bare.now.types bare.now.fields (named_marks (store_of found.now).items (store_of found.now).types) classes.items) }
 {
     let named = named_marks(alloc, &found.items, found.types.len())?;
-    let classes = classes(alloc, &module.types, &module.fields, &named)?;
+    let classes = classes(alloc, &bare.types, &bare.fields, &named)?;
     Ok(classes)
 }
 
@@ -138,17 +138,17 @@ fn variables(
     alloc: Global,
     tokens: &Tokens,
     found: &Spellings,
-    module: &Module,
+    bare: &Module,
     numbers: &[u32],
     classes: &[u64],
     names: &[Option<u32>],
 ) -> Result<GlobalList, OutOfMemory>
-    requires layouts { HasLayouts module.now }
+    requires layouts { HasLayouts bare.now }
     requires names { names.now ≡ variables_of tokens.now.source (store_of found.now).items (store_of found.now) }
-    ensures { IfOk result (λ globals. globals ≡ globals_of (tables tokens.now.source (store_of found.now) numbers.now classes.now module.now) (store_of found.now).items) }
+    ensures { IfOk result (λ globals. globals ≡ globals_of (tables tokens.now.source (store_of found.now) numbers.now classes.now bare.now) (store_of found.now).items) }
 {
     let values = Initializers {
-        module,
+        module: bare,
         found,
         source: tokens.source(),
         numbers,
