@@ -1,7 +1,8 @@
 ghost use Rattle.ir_read_items.specs.ItemLaws.{SpelledIsModule, ModuleIsSpelled, BeforeFaultBegins, FaultEnds, FaultIsNoModule};
 
 /// The law of items: exactly the modules of the grammar are read, with what they spell, and a fault stands at the first
-/// token with which no module begins. The end of the text is a token.
+/// token with which no module begins, unless it is one of nesting. Of such a fault the law says that the tokens before it
+/// begin a module. The end of the text is a token.
 pub fn texts_are_modules()
     ensures read { SpelledIsModule }
     ensures complete { ModuleIsSpelled }
