@@ -2,6 +2,7 @@
 -- AddressSanitizer Design Documentation", "Algorithm"). The ranges are this project's choice. The definitions of memory,
 -- blocks, frames and globals take the map, so that they compute on small ones.
 use Rattle.std.specs.Prelude.{ℕ, zero, suc, ◌+◌, ◌*◌, ◌/◌}
+use Rattle.hw_base.specs.declared.numbers.TheConstants.{GLOBALS_AT, STACKS_AT, STACK_LENGTH, MOST_TASKS, MOST_FRAMES, HEAP_AT}
 
 -- Addresses and lengths are in bytes, multiples of 16. A stack for each of the tasks follows the other from `stacks_at` on.
 -- A task has at most `most_frames` frames.
@@ -14,16 +15,16 @@ pub record AddressMap : Type 0 where
   pub heap_at : ℕ
   pub heap_length : ℕ
 
--- the program's map, for a length of the heap: 64 stacks of 256 KiB from 0x10000000 on
-abbrev pub program_map : ℕ → AddressMap
+-- the program's map, for a length of the heap
+unfoldable pub program_map : ℕ → AddressMap
 program_map heap =
     record {
-      globals_at = 65536;
-      stacks_at = 268435456;
-      stack_length = 262144;
-      most_tasks = 64;
-      most_frames = 4096;
-      heap_at = 536870912;
+      globals_at = GLOBALS_AT;
+      stacks_at = STACKS_AT;
+      stack_length = STACK_LENGTH;
+      most_tasks = MOST_TASKS;
+      most_frames = MOST_FRAMES;
+      heap_at = HEAP_AT;
       heap_length = heap;
     }
 

@@ -6,6 +6,7 @@
 mod accesses;
 mod byte_list;
 mod endings;
+mod numbers;
 mod operators;
 mod out_of_memory;
 mod pointers;
@@ -14,6 +15,10 @@ mod size_list;
 pub use accesses::{Access, Kind, Reason};
 pub use byte_list::ByteList;
 pub use endings::{Full, Input, Space, Status, Trap};
+pub use numbers::{
+    GLOBALS_AT, HEAP_AT, MOST_FRAMES, MOST_HEAP, MOST_NESTING, MOST_RING, MOST_STEPS, MOST_TASKS,
+    MOST_TEXT, MOST_WORDS, MUTEX_SIZE, PAGE, STACK_LENGTH, STACKS_AT, TASK_NUMBER_SIZE,
+};
 pub use operators::{BinOp, BitOp, CastOp, OverOp, Pred, RmwOp};
 pub use out_of_memory::OutOfMemory;
 pub use pointers::{Base, Obj, Pointer, Site};

@@ -1,6 +1,7 @@
 pub mod LeastPlace
 pub mod Options
 pub mod Tag
+pub mod TaskRuns
 pub mod Turn
 pub mod Word
 pub mod Words

@@ -1,5 +1,6 @@
 -- The words of a specification by their index alone, counted from 0. A word is a byte.
 use Rattle.std.specs.Prelude.{◌≡◌, ℕ, ◌%◌, ◌^◌, ◌<◌, ◌≤◌, List, length, slice_index}
+use Rattle.hw_base.specs.declared.numbers.TheConstants.{MOST_WORDS}
 use Rattle.rand_pcg.specs.Lcg.{Lcg, advance, started, increment_of}
 use Rattle.rand_pcg.specs.Pcg.{multiplier_64, pcg32}
 use Rattle.hw_tags.specs.declared.words_spec.WordsSpec.{WordsSpec}
@@ -26,7 +27,7 @@ word (Seed seed) i = generated (generator_of seed) i
 abbrev pub IsNotEmpty : WordsSpec → Type 0
 IsNotEmpty spec = (list : List ℕ) → spec ≡ Cycle list → 0 < length list
 
--- a list of words has 1 to 65,536 of them
+-- a list of words has as many as `MOST_WORDS` at most, and one at least
 pub record IsWordsSpec (spec : WordsSpec) : Type 0 where
   pub not_empty : IsNotEmpty spec
-  pub not_long : (list : List ℕ) → spec ≡ Cycle list → length list ≤ 65536
+  pub not_long : (list : List ℕ) → spec ≡ Cycle list → length list ≤ MOST_WORDS

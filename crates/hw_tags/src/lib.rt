@@ -15,7 +15,7 @@ mod words_spec;
 pub use least_place::blocks_have_the_least_place;
 pub use options::Options;
 pub use tags::{frame_tag, free_tag, global_tag, heap_tag};
-pub use turns::next_task_is_unfinished;
+pub use turns::{next_task_is_unfinished, unfinished_tasks_are_listed};
 pub use words::Words;
 pub use words_spec::WordsSpec;
 
