@@ -34,6 +34,12 @@ pub const TASK_NUMBER_SIZE: u32 = 8;
 /// The bytes of a mutex in memory, and its alignment.
 pub const MUTEX_SIZE: u32 = 4;
 
+/// How many bytes all globals can take, each in its rounded size.
+pub const MOST_GLOBALS: u64 = 16_777_200;
+
+/// The greatest size of a type and of a variable, in bytes: 2^40.
+pub const MOST_SIZE: u64 = 0x100_0000_0000;
+
 /// The greatest heap, in bytes: 256 MiB.
 pub const MOST_HEAP: u64 = 0x1000_0000;
 

@@ -1,3 +1,4 @@
+pub mod InputState
 pub mod LeastPlace
 pub mod Options
 pub mod Tag

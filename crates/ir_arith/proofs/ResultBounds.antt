@@ -14,7 +14,8 @@ use Rattle.hw_base.specs.declared.operators.OverOp.{OverOp}
 use Rattle.ir_arith.specs.TwosComplement.{unsigned_of}
 use Rattle.ir_arith.specs.Binary.{binary_result, add_result, sub_result, mul_result, udiv_result, urem_result, is_least_by_minus_one, signed_division, shl_result, lshr_result, ashr_result}
 use Rattle.ir_arith.specs.Conversion.{IsConversion, cast_result}
-use Rattle.ir_arith.specs.BitIntrinsics.{IsDefinedAt, bits_result, reversed_bytes, bswap_result, fshl_result, fshr_result, smin_result, smax_result}
+use Rattle.hw_base.specs.ByteSwap.{HasPairs}
+use Rattle.ir_arith.specs.BitIntrinsics.{bits_result, reversed_bytes, bswap_result, fshl_result, fshr_result, smin_result, smax_result}
 use Rattle.ir_arith.specs.Overflow.{overflow_result, exact_result}
 use Rattle.ir_arith.proofs.Residues.{below_wider}
 use Rattle.ir_arith.proofs.ByteLaws.{pow_of_bytes}
@@ -86,7 +87,7 @@ unfolding ones_in
 ones_in-le zero a = omega arith
 ones_in-le (suc k) a = omega (arith, ones_in-le k (a / 2))
 
-pub bits_result-below : (op : BitOp) (w a b c : ℕ) → 1 ≤ w → a < 2 ^ w → b < 2 ^ w → IsDefinedAt op w → bits_result op w a b c < 2 ^ w
+pub bits_result-below : (op : BitOp) (w a b c : ℕ) → 1 ≤ w → a < 2 ^ w → b < 2 ^ w → HasPairs op w → bits_result op w a b c < 2 ^ w
 unfolding fshl_result fshr_result smin_result smax_result
 bits_result-below BSwap w a b c one p q even = bswap_result-below w a even
 bits_result-below CtPop w a b c one p q d = omega (arith, ones_in-le w a, below_pow w)

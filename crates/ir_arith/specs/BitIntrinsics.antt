@@ -1,6 +1,6 @@
 -- The intrinsics on bits and the integer intrinsics without overflow (LLVM Language Reference, "Bit Manipulation Intrinsics", "Standard
 -- C/C++ Library Intrinsics" and "'llvm.expect' Intrinsic").
-use Rattle.std.specs.Prelude.{ℕ, zero, suc, ◌≡◌, ◌+◌, ◌*◌, ◌/◌, ◌%◌, ◌^◌, min, max, unsigned_abs, int_le, if◌then◌else◌}
+use Rattle.std.specs.Prelude.{ℕ, zero, suc, ◌+◌, ◌*◌, ◌/◌, ◌%◌, ◌^◌, min, max, unsigned_abs, int_le, if◌then◌else◌}
 use Rattle.std.specs.Int.Count.{ones_in, count_leading_zeros, count_trailing_zeros}
 use Rattle.hw_base.specs.declared.operators.BitOp.{BitOp}
 use Rattle.hw_base.specs.declared.operators.BitOp.TheVariants.{BSwap, CtPop, CtLz, CtTz, FShl, FShr, SMin, SMax, UMin, UMax, Abs, Expect}
@@ -46,11 +46,6 @@ smax_result width a b = if int_le (signed_of width a) (signed_of width b) then b
 -- "'llvm.abs.*' Intrinsic": the absolute value of the signed number. That of the least number is the least number
 unfoldable pub abs_result : ℕ → ℕ → ℕ
 abs_result width a = unsigned_abs (signed_of width a)
-
--- `bswap` has a result at the multiples of 16, and the others have one at every width
-abbrev pub IsDefinedAt : BitOp → ℕ → Type 0
-IsDefinedAt BSwap width = width % 16 ≡ 0
-IsDefinedAt _ width = Unit {0}
 
 -- the table. An argument that isn't named is ignored: one that the intrinsic doesn't have, the flag of `ctlz`, `cttz` and `abs`, and the
 -- second argument of `expect`. `ctlz` and `cttz` of 0 are the width, whatever the flag says

@@ -1,6 +1,7 @@
 //! The intrinsics on bits, and the integer intrinsics without overflow.
 ghost use Rattle.std.specs.Prelude.{◌≡◌, ◌+◌, ◌-◌, ◌*◌, ◌/◌, ◌%◌, ◌^◌, ◌<◌, ◌≤◌};
-ghost use Rattle.ir_arith.specs.BitIntrinsics.{bits_result, IsDefinedAt, bswap_result, ctpop_result, ctlz_result, cttz_result, fshl_result, fshr_result, smin_result, smax_result, abs_result};
+ghost use Rattle.hw_base.specs.ByteSwap.{HasPairs};
+ghost use Rattle.ir_arith.specs.BitIntrinsics.{bits_result, bswap_result, ctpop_result, ctlz_result, cttz_result, fshl_result, fshr_result, smin_result, smax_result, abs_result};
 
 use crate::twos_complement::{signed, wrap};
 use hw_base::BitOp;
@@ -15,8 +16,8 @@ pub fn bits(op: BitOp, width: u32, a: u128, b: u128, c: u128) -> u128
     requires a_below { a < 2 ^ width }
     requires b_below { b < 2 ^ width }
     requires c_below { c < 2 ^ width }
-    ensures value { IsDefinedAt op width → result ≡ bits_result op width a b c }
-    ensures below { IsDefinedAt op width → result < 2 ^ width }
+    ensures value { HasPairs op width → result ≡ bits_result op width a b c }
+    ensures below { HasPairs op width → result < 2 ^ width }
 {
     match op {
         BitOp::BSwap => bswap(width, a),

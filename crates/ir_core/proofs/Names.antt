@@ -11,7 +11,8 @@ use Rattle.hw_base.specs.declared.operators.OverOp.TheVariants.{SAdd, UAdd, SSub
 use Rattle.ir_core.specs.declared.externals.TheConstants.{FAMILIES}
 use Rattle.ir_core.specs.declared.lib_functions.Lib.{Lib}
 use Rattle.ir_core.specs.declared.lib_functions.Lib.TheVariants.{Malloc, Calloc, Free, Realloc, Memcpy, Memmove, Memset, LlvmMemcpy, LlvmMemmove, LlvmMemset, Memcmp, Strlen, Puts, Putchar, Getchar, Exit, Abort, LlvmTrap, PthreadCreate, PthreadJoin, MutexInit, MutexLock, MutexUnlock, MutexDestroy, LifetimeStart, LifetimeEnd, Assume, Bits, Overflow}
-use Rattle.ir_core.specs.Externals.{name_stem, width_text, lib_name, IsWidth, IsThere, HasPairs, family}
+use Rattle.hw_base.specs.ByteSwap.{HasPairs}
+use Rattle.ir_core.specs.Externals.{name_stem, width_text, lib_name, IsWidth, IsThere, family}
 
 -- what a test of bytes against a number's text tells
 pub decimal_told : (n : ℕ) (bytes text : List ℕ) (r : Bool) → decimal n ≡ text → r ≡ pointwise eqb bytes text → (IsTrue r → decimal n ≡ bytes) × (decimal n ≡ bytes → IsTrue r)

@@ -1,10 +1,10 @@
 -- The names of the functions that a module may declare and call without defining them: those of the C library and of
 -- POSIX threads (ISO C, "Library"; POSIX, "pthread.h"), and the intrinsics of LLVM (LLVM Language Reference, "Intrinsic
 -- Functions"). Which of them there are is this project's choice.
-use Rattle.std.specs.Prelude.{ℕ, List, [], ◌++◌, ◌≡◌, ◌≢◌, Option, MatchOption, ◌≤◌, ◌%◌, codes, decimal}
-use Rattle.hw_base.specs.declared.operators.BitOp.{BitOp}
+use Rattle.std.specs.Prelude.{ℕ, List, [], ◌++◌, ◌≡◌, ◌≢◌, Option, MatchOption, ◌≤◌, codes, decimal}
 use Rattle.hw_base.specs.declared.operators.BitOp.TheVariants.{BSwap, CtPop, CtLz, CtTz, FShl, FShr, SMin, SMax, UMin, UMax, Abs, Expect}
 use Rattle.hw_base.specs.declared.operators.OverOp.TheVariants.{SAdd, UAdd, SSub, USub, SMul, UMul}
+use Rattle.hw_base.specs.ByteSwap.{HasPairs}
 use Rattle.ir_core.specs.declared.lib_functions.Lib.{Lib}
 use Rattle.ir_core.specs.declared.lib_functions.Lib.TheVariants.{Malloc, Calloc, Free, Realloc, Memcpy, Memmove, Memset, LlvmMemcpy, LlvmMemmove, LlvmMemset, Memcmp, Strlen, Puts, Putchar, Getchar, Exit, Abort, LlvmTrap, PthreadCreate, PthreadJoin, MutexInit, MutexLock, MutexUnlock, MutexDestroy, LifetimeStart, LifetimeEnd, Assume, Bits, Overflow}
 
@@ -70,11 +70,6 @@ lib_name lib = name_stem lib ++ width_text lib
 pub record IsWidth (width : ℕ) : Type 0 where
   pub some : 1 ≤ width
   pub most : width ≤ 128
-
--- bytes are swapped in pairs, so a byte swap has a multiple of 16 bits
-abbrev pub HasPairs : BitOp → ℕ → Type 0
-HasPairs BSwap width = width % 16 ≡ 0
-HasPairs other width = Unit {0}
 
 -- the intrinsics are there at each width that is accepted
 abbrev pub IsThere : Lib → Type 0

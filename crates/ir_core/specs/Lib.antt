@@ -3,10 +3,16 @@ pub mod Examples
 pub mod Externals
 pub mod Faults
 pub mod Holding
+pub mod IndexSteps
 pub mod Layout
+pub mod LibraryAccesses
+pub mod NumberTypes
+pub mod Operations
 pub mod Progress
 pub mod Refusals
 pub mod Resolved
+pub mod ResolvedBodies
+pub mod Runnable
 pub mod Spelling
 pub mod Starts
 pub mod Tokenisation

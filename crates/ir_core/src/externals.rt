@@ -1,5 +1,6 @@
 ghost use Rattle.std.specs.Prelude.{◌≡◌, ◌≢◌, ℕ, ◌≤◌, ◌<◌, ◌++◌, ◌↔◌, IsTrue, MatchOption, List, length, decimal};
-ghost use Rattle.ir_core.specs.Externals.{IsExternal, name_stem, width_text, lib_name, IsWidth, IsThere, HasPairs, family};
+ghost use Rattle.hw_base.specs.ByteSwap.{HasPairs};
+ghost use Rattle.ir_core.specs.Externals.{IsExternal, name_stem, width_text, lib_name, IsWidth, IsThere, family};
 
 use crate::Lib;
 use hw_base::{BitOp, OverOp};
