@@ -1,1 +1,10 @@
+pub mod BlockPlaces
+pub mod CodeAt
 pub mod RunLaws
+pub mod KeptPlaces
+pub mod KeptSteps
+pub mod EntryPlaces
+pub mod CheckedSteps
+pub mod OwnSteps
+pub mod WholeSteps
+pub mod WorldPlaces

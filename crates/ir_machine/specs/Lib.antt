@@ -9,6 +9,7 @@ pub mod InstructionStep
 pub mod LibraryCalls
 pub mod MemorySteps
 pub mod Operands
+pub mod ReachableWorlds
 pub mod Runs
 pub mod Shown
 pub mod Start
