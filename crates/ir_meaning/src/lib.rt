@@ -8,5 +8,8 @@ mod laws;
 mod programs;
 
 pub use examples::{exits_and_traps, turns_of_two_tasks, violations};
-pub use laws::{runs_under_bounds, what_is_dead_stays, what_was_written_is_read};
+pub use laws::{
+    births_at_the_start, runs_under_bounds, what_changes_keep, what_steps_do_to_births,
+    what_was_written_is_read,
+};
 pub use programs::small_programs;
