@@ -1,14 +1,13 @@
 -- What births, deaths and writes do to births.
-use Rattle.std.proofs.Common.{◌≡◌, ℕ, zero, suc, ◌+◌, Bool, true, false, List, [], ◌∷◌, ◌++◌, length, map, replicate, slice_get, slice_set, Option, Some, None, option_map, ◌⊎◌, inl, inr, refl, sym, ◌∙◌, ap, subst, if◌then◌else◌}
+use Rattle.std.proofs.Common.{◌≡◌, ℕ, zero, suc, ◌+◌, true, false, List, [], ◌∷◌, ◌++◌, length, map, slice_get, slice_set, Option, Some, None, option_map, ◌⊎◌, inl, inr, refl, sym, ◌∙◌, ap, subst, if◌then◌else◌}
 use Rattle.std.proofs.lemmas.List.{length-set, length-replicate, map-append}
 use Rattle.std.proofs.lemmas.Option.{slice_get-map}
 use Rattle.hw_base.specs.declared.pointers.Base.{Base}
 use Rattle.hw_base.specs.declared.pointers.Base.TheVariants.{Null, Object}
-use Rattle.hw_base.specs.declared.pointers.Obj.{Obj}
 use Rattle.hw_base.specs.declared.pointers.Site.{Site}
 use Rattle.ir_meaning.specs.Values.{SourceByte, Data}
-use Rattle.ir_meaning.specs.Births.{Region, Life, Living, Dead, is_living, SourceObject, Birth, get_object, object_in, changed_at, fresh_object, fresh_birth, ended_object, ended_birth, after_death, written_from, written_object, written_birth, put_bytes}
-use Rattle.ir_meaning.specs.State.{News, Born, Died}
+use Rattle.ir_meaning.specs.Births.{Region, Dead, is_living, SourceObject, Birth, get_object, object_in, changed_at, fresh_object, fresh_birth, ended_object, ended_birth, written_from, written_object, written_birth, put_bytes}
+use Rattle.ir_meaning.specs.State.{News}
 use Rattle.ir_meaning.specs.BirthChanges.{BirthsChange, same, wrote, bore, died, both, KeepsDead, IsSameBirth, OnlyGrow, HasItsBytes, HaveTheirBytes, bare_object, bare_birth, bare, with_news, after_news}
 
 -- ---- lists

@@ -5,3 +5,4 @@ pub mod RunChanges
 pub mod RunLaws
 pub mod StartLaws
 pub mod StepChanges
+pub mod StringLaws

@@ -1,6 +1,6 @@
 -- What steps of the run, and runs, do to births.
-use Rattle.std.proofs.Common.{◌≡◌, ℕ, zero, suc, List, [], ◌∷◌, ◌++◌, Option, Some, None, refl, subst, slice_get}
-use Rattle.hw_tags.specs.TaskRuns.{World, Goes, Stays, Starts, Finishes, Ends, Stuck, WorldStep, Next, Last, NoStep, Run, Spent, Ended, IsStuck, kept, lifted, frames_step, task_step, counted, next_task, world_step, after_report, after_step, run_from}
+use Rattle.std.proofs.Common.{◌≡◌, ℕ, zero, suc, List, [], ◌∷◌, Option, Some, None, subst, slice_get}
+use Rattle.hw_tags.specs.TaskRuns.{Goes, Stays, Starts, Finishes, Ends, Stuck, Next, Last, NoStep, Spent, Ended, IsStuck, lifted, task_step, counted, next_task, world_step, after_report, after_step, run_from}
 use Rattle.ir_core.specs.declared.ir_module.Module.{Module}
 use Rattle.ir_meaning.specs.Births.{Birth}
 use Rattle.ir_meaning.specs.BirthChanges.{BirthsChange, same, both, all_news}

@@ -1,6 +1,6 @@
 -- Laws of runs under bounds, from the start.
-use Rattle.std.proofs.Common.{◌≡◌, ℕ, ◌+◌, List, [], ◌∷◌, refl, sym, ◌∙◌, ap}
-use Rattle.hw_tags.specs.TaskRuns.{WorldStep, Next, Last, NoStep, Run, Spent, Ended, IsStuck, after_report, after_step}
+use Rattle.std.proofs.Common.{◌≡◌, ℕ, ◌+◌, List, ◌∷◌, sym, ◌∙◌, ap}
+use Rattle.hw_tags.specs.TaskRuns.{Next, Last, NoStep, Spent, Ended, IsStuck, after_report, after_step}
 use Rattle.hw_tags.proofs.RunLaws.{run_from-ended}
 use Rattle.ir_core.specs.declared.ir_module.Module.{Module}
 use Rattle.ir_meaning.specs.Runs.{step_under, source_run_from, source_run}

@@ -1,19 +1,18 @@
 -- The births at the start of a run.
-use Rattle.std.proofs.Common.{◌≡◌, ℕ, zero, suc, List, [], ◌∷◌, ◌++◌, length, map, replicate, slice_get, Option, Some, None, refl, sym, ◌∙◌, ap, subst}
+use Rattle.std.proofs.Common.{◌≡◌, ℕ, zero, suc, List, [], ◌∷◌, length, map, replicate, slice_get, Option, Some, None, refl, ◌∙◌, subst}
 use Rattle.std.proofs.lemmas.List.{length-replicate}
-use Rattle.hw_tags.specs.TaskRuns.{WorldStep, Next, NoStep}
-use Rattle.hw_base.specs.declared.pointers.Site.{Site}
+use Rattle.hw_tags.specs.TaskRuns.{Next}
 use Rattle.ir_core.specs.declared.ir_module.Function.{Function}
 use Rattle.ir_core.specs.declared.ir_module.GlobalVar.{GlobalVar}
 use Rattle.ir_core.specs.declared.ir_module.Module.{Module}
 use Rattle.ir_core.specs.declared.operands.Part.{Part}
 use Rattle.ir_core.specs.NumberTypes.{alloc_size}
 use Rattle.ir_meaning.specs.Values.{SourceByte, Data}
-use Rattle.ir_meaning.specs.Births.{Birth, SourceObject, get_object, written_from}
+use Rattle.ir_meaning.specs.Births.{SourceObject, get_object, written_from}
 use Rattle.ir_meaning.specs.BirthChanges.{HasItsBytes, HaveTheirBytes}
 use Rattle.ir_meaning.specs.CallSteps.{entry_of}
 use Rattle.ir_meaning.specs.Start.{part_bytes, with_parts, global_object, global_births, world_with_main, start_with, source_start}
-use Rattle.ir_meaning.specs.State.{SourceReport, SourceWorld, SourceWorldStep}
+use Rattle.ir_meaning.specs.State.{SourceReport, SourceWorld}
 use Rattle.ir_meaning.proofs.BirthChangeLaws.{length-written_from, change-has_bytes}
 use Rattle.ir_meaning.proofs.StepChanges.{entry_of-changes}
 

@@ -1,6 +1,6 @@
 -- What each step does to births: nothing but what it reports.
 use Rattle.std.proofs.lemmas.List.{append-nil}
-use Rattle.std.proofs.Common.{subst, ℕ, zero, suc, ◌+◌, List, [], ◌∷◌, ◌++◌, length, Option, Some, None, Bool, true, false, ◌==◌, nat_le, if◌then◌else◌, slice_get}
+use Rattle.std.proofs.Common.{subst, ℕ, zero, suc, ◌+◌, List, [], ◌∷◌, ◌++◌, length, Option, Some, None, Bool, true, false, ◌==◌, nat_le}
 use Rattle.std.specs.Prelude.{Result, Ok, Err, take}
 use Rattle.hw_base.specs.declared.endings.Input.{Input}
 use Rattle.hw_base.specs.declared.endings.Input.TheVariants.{Byte, End}
@@ -28,15 +28,15 @@ use Rattle.ir_core.specs.declared.ir_module.Function.{Function}
 use Rattle.ir_core.specs.declared.ir_module.Module.{Module}
 use Rattle.ir_core.specs.LibraryAccesses.{accesses_of}
 use Rattle.ir_meaning.specs.Values.{Value}
-use Rattle.ir_meaning.specs.Births.{Heap, Birth, Stack, get_object, bytes_in, put_bytes, after_death}
+use Rattle.ir_meaning.specs.Births.{Heap, Birth, Stack, get_object, bytes_in}
 use Rattle.ir_meaning.specs.BirthChanges.{BirthsChange, same, wrote, bore, died, both}
-use Rattle.ir_meaning.specs.State.{News, Born, Died, SourceFrame, SourceSeen, SourceOutcome, SourceShared}
+use Rattle.ir_meaning.specs.State.{News, SourceFrame, SourceSeen, SourceOutcome}
 use Rattle.ir_meaning.specs.StepEnds.{chain_of}
 use Rattle.ir_meaning.specs.ArithmeticSteps.{binary_step, gives_or_traps, gives_comparison, icmp_step, cast_step, select_step, freeze_step, extract_step, bits_step, overflow_step}
 use Rattle.ir_meaning.specs.AddressSteps.{alloca_step, gep_step}
 use Rattle.ir_meaning.specs.MemorySteps.{load_step, store_step, rmw_step, cmpxchg_step}
 use Rattle.ir_meaning.specs.BranchSteps.{goes_to, br_step, br_if_step, switch_step, unreachable_step}
-use Rattle.ir_meaning.specs.CallSteps.{Entry, entry_of, call_step, frame_ended, death_news, last_return, returns_to, ret_step}
+use Rattle.ir_meaning.specs.CallSteps.{entry_of, call_step, frame_ended, death_news, last_return, returns_to, ret_step}
 use Rattle.ir_meaning.specs.BlockFunctions.{block_of, births_with, births_copied, births_resized, freed, resized, malloc_step, calloc_step, free_step, realloc_step}
 use Rattle.ir_meaning.specs.ByteFunctions.{copy_step, set_step, gives_order, memcmp_step}
 use Rattle.ir_meaning.specs.Strings.{StringAnswer, Whole, Refused, MeetsPiece, NotEnded}

@@ -1,5 +1,5 @@
 -- What a step may do to births, and what this means for them. Laws of this project's definitions.
-use Rattle.std.specs.Prelude.{◌≡◌, ℕ, List, [], ◌∷◌, ◌++◌, length, map, slice_get, Option, Some, false, if◌then◌else◌}
+use Rattle.std.specs.Prelude.{◌≡◌, ℕ, List, [], ◌∷◌, ◌++◌, length, map, slice_get, Some, false, if◌then◌else◌}
 use Rattle.std.specs.List.{flat_map}
 use Rattle.hw_base.specs.declared.pointers.Base.{Base}
 use Rattle.hw_base.specs.declared.pointers.Obj.{Obj}
@@ -14,11 +14,11 @@ pub data BirthsChange : List Birth → List Birth → List News → Type 0 where
   same : (births : List Birth) → BirthsChange births births []
   wrote : (births : List Birth) (base : Base) (off : ℕ) (bytes : List SourceByte) → BirthsChange births (put_bytes births base off bytes) []
   bore : (births : List Birth) (region : Region) (task : ℕ) (chain : List Site) (sizes : List ℕ)
-    → BirthsChange births (births ++ fresh_birth region task chain sizes ∷ []) (Born (length births) region task chain sizes ∷ [])
+      → BirthsChange births (births ++ fresh_birth region task chain sizes ∷ []) (Born (length births) region task chain sizes ∷ [])
   died : (births : List Birth) (number task : ℕ) (chain : List Site)
-    → BirthsChange births (after_death births number task chain) (Died number task chain ∷ [])
+      → BirthsChange births (after_death births number task chain) (Died number task chain ∷ [])
   both : (before between after : List Birth) (first second : List News)
-    → BirthsChange before between first → BirthsChange between after second → BirthsChange before after (first ++ second)
+      → BirthsChange before between first → BirthsChange between after second → BirthsChange before after (first ++ second)
 
 -- ---- what stays
 

@@ -8,6 +8,7 @@ use Rattle.hw_base.specs.declared.pointers.Obj.{Obj}
 use Rattle.hw_base.specs.declared.pointers.Pointer.{Pointer}
 use Rattle.hw_base.specs.declared.pointers.Site.{Site}
 use Rattle.hw_tags.specs.declared.words_spec.WordsSpec.TheVariants.{Cycle}
+use Rattle.hw_tags.specs.InputState.{InputState}
 use Rattle.hw_tags.specs.TaskRuns.{Spent, Ended, IsStuck, world_step, run_from}
 use Rattle.hw_tags.specs.Turn.{unfinished_from}
 use Rattle.hw_tags.specs.Word.{repeated, word}
@@ -131,3 +132,8 @@ news_of IsStuck = []
 unfoldable pub shown_news : Module → (turns : List ℕ) → List News
 unfolding run_is_computed
 shown_news program turns = news_of (example_run program turns)
+
+-- how much of this input an example took
+unfoldable pub shown_input : Module → (turns input : List ℕ) → Option InputState
+unfolding run_is_computed
+shown_input program turns input = option_map (λ (w : SourceWorld). w.shared.input) (last_world (run_with_input program turns input))

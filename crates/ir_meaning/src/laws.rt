@@ -1,4 +1,4 @@
-ghost use Rattle.std.specs.Prelude.{◌≡◌, ℕ, ◌+◌, ◌/◌, ◌^◌, ◌<◌, List, [], ◌∷◌, Some};
+ghost use Rattle.std.specs.Prelude.{◌≡◌, ◌≢◌, ℕ, ◌+◌, ◌/◌, ◌^◌, ◌<◌, List, [], ◌∷◌, Some};
 ghost use Rattle.hw_base.specs.declared.pointers.Base.{Base};
 ghost use Rattle.hw_tags.specs.TaskRuns.{Next, Last, Spent, Ended, resumed};
 ghost use Rattle.ir_core.specs.declared.ir_module.Module.{Module};
@@ -8,6 +8,7 @@ ghost use Rattle.ir_meaning.specs.BirthChanges.{BirthsChange, KeepsDead, OnlyGro
 ghost use Rattle.ir_meaning.specs.Encoding.{int_from, pointer_from, number_bytes, pointer_bytes};
 ghost use Rattle.ir_meaning.specs.Runs.{step_under, source_world_step, source_run_from, source_run};
 ghost use Rattle.ir_meaning.specs.Start.{source_start};
+ghost use Rattle.ir_meaning.specs.Strings.{NotEnded, base_size, string_at};
 ghost use Rattle.ir_meaning.specs.State.{News, SourceEnding, SourceReport, SourceWorld, nothing_happened};
 
 /// Laws of the encoding of values: an integer and a pointer read back what was written. The function does nothing when
@@ -72,4 +73,11 @@ pub fn what_changes_keep()
 pub fn births_at_the_start()
     ensures { (program : Module) (w : SourceWorld) (report : SourceReport) → source_start program ≡ Next w report
         → HaveTheirBytes w.shared.births }
+{}
+
+/// The scan of a string ends, for a pointer into an object of fewer than 2^64 bytes: it finds a 0 byte, the access to a byte
+/// is refused, or it meets a piece of a pointer. The function does nothing when it runs.
+pub fn scans_of_strings_end()
+    ensures { (births : List Birth) (base : Base) (off : ℕ) → HaveTheirBytes births
+        → base_size births base < 2 ^ 64 → string_at births base off ≢ NotEnded }
 {}
