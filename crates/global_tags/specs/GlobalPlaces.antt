@@ -4,6 +4,7 @@
 use Rattle.std.specs.Prelude.{ℕ, ◌+◌, List, [], ◌∷◌, map, take, sum_by, if◌then◌else◌, Option, Some, None, slice_get}
 use Rattle.std.specs.List.{enumerate_from}
 use Rattle.hw_base.specs.AddressMap.{AddressMap, rounded_size}
+use Rattle.hw_base.specs.declared.numbers.TheConstants.{PAGE}
 use Rattle.hw_base.specs.TaggedAddress.{tagged_address}
 use Rattle.hw_tags.specs.Tag.{global_tag_of}
 use Rattle.ir_core.specs.declared.ir_module.GlobalVar.{GlobalVar}
@@ -23,9 +24,9 @@ constants_size layouts globals = sum_by (λ global. if global.constant then roun
 unfoldable pub variables_size : List TypeLayout → List GlobalVar → ℕ
 variables_size layouts globals = sum_by (λ global. if global.constant then 0 else rounded_size (global_size layouts global)) globals
 
--- the variables begin at the first page of 4,096 bytes at or after the constants' end
+-- the variables begin at the first page at or after the constants' end
 abbrev pub variables_at : AddressMap → List TypeLayout → List GlobalVar → ℕ
-variables_at places layouts globals = align_up (places.globals_at + constants_size layouts globals) 4096
+variables_at places layouts globals = align_up (places.globals_at + constants_size layouts globals) PAGE
 
 -- what is mapped for these globals, and for the map's heap
 abbrev pub layout_of : AddressMap → List TypeLayout → List GlobalVar → Layout
@@ -37,14 +38,14 @@ layout_of places layouts globals =
       heap = places.heap_length;
     }
 
--- the place of global k, which is behind those of its kind that stand before it in the text
+-- the place of global k, which follows those of its kind that stand before it in the text
 abbrev pub place_of_global : AddressMap → List TypeLayout → List GlobalVar → ℕ → GlobalVar → ℕ
 place_of_global places layouts globals k global =
     if global.constant then places.globals_at + constants_size layouts (take k globals)
     else variables_at places layouts globals + variables_size layouts (take k globals)
 
 -- global k in memory, for the one tag word of all globals
-abbrev pub descriptor_of : AddressMap → List TypeLayout → List GlobalVar → ℕ → ℕ → GlobalVar → Descriptor
+abbrev pub descriptor_of : AddressMap → List TypeLayout → List GlobalVar → (word k : ℕ) → GlobalVar → Descriptor
 descriptor_of places layouts globals word k global =
     record {
       at = place_of_global places layouts globals k global;
@@ -58,15 +59,15 @@ abbrev pub descriptors_of : AddressMap → List TypeLayout → List GlobalVar �
 descriptors_of places layouts globals word =
     map (λ numbered. descriptor_of places layouts globals word numbered.0 numbered.1) (enumerate_from 0 globals)
 
--- how many tag words the globals draw: one where there are any
+-- how many tag words the globals draw: one if there are any
 abbrev pub global_words : List GlobalVar → ℕ
 global_words [] = 0
 global_words (global ∷ globals) = 1
 
--- the tagged address so many bytes behind the start of a global; a number past the end names no global
+-- the tagged address so many bytes after the start of a global; a number past the end names no global
 abbrev pub number_of : Option Descriptor → ℕ → ℕ
 number_of None off = off
 number_of (Some descriptor) off = tagged_address descriptor.tag (descriptor.at + off)
 
-abbrev pub global_number : List Descriptor → ℕ → ℕ → ℕ
+abbrev pub global_number : List Descriptor → (global off : ℕ) → ℕ
 global_number descriptors global off = number_of (slice_get descriptors global) off

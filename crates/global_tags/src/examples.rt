@@ -6,7 +6,7 @@ ghost use Rattle.global_tags.specs.GlobalPlaces.{layout_of, descriptors_of, glob
 ghost use Rattle.global_tags.specs.SmallGlobals.{small_layouts, small_globals, loaded_small};
 ghost use Rattle.std.specs.Prelude.{◌≡◌, ℕ, Some, Ok, [], ◌∷◌, true, false};
 
-/// A constant of the two bytes "hi" and a variable that points to its second byte, for the word 3: the constant stands at
+/// A constant of the two bytes "hi" and a variable that points to its second byte, for the word 3: the constant is at
 /// the first address of globals with the tag 0x13, the variable on the next page with the tag 0x14. A read of the
 /// constant's third byte is refused.
 pub fn globals_by_example()

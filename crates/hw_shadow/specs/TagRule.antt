@@ -13,36 +13,36 @@ is_short_size memory = nat_le 1 memory && nat_le memory 15
 
 -- The tags agree: the pointer's tag is the memory tag; or the memory tag is the size of a short granule, the access ends
 -- within it, and the pointer's tag is the last byte of the granule.
-abbrev pub tags_agree : ℕ → ℕ → ℕ → ℕ → Bool
+abbrev pub tags_agree : (pointer memory end last : ℕ) → Bool
 tags_agree pointer memory end last = (pointer == memory) || (is_short_size memory && nat_le end memory && (pointer == last))
 
 -- how many granules an access of so many bytes from an address on touches
-abbrev pub granules_touched : ℕ → ℕ → ℕ
+abbrev pub granules_touched : (address size : ℕ) → ℕ
 granules_touched address zero = 0
 granules_touched address (suc n) = granule_of (address + n) + 1 - granule_of address
 
 -- the end of the access in a granule that it touches: one more than the position of the last touched byte
-abbrev pub end_in_granule : ℕ → ℕ → ℕ → ℕ
+abbrev pub end_in_granule : (address size granule : ℕ) → ℕ
 end_in_granule address size granule = min 16 (address + size - 16 * granule)
 
 -- the first touched address in a granule
-abbrev pub first_touched : ℕ → ℕ → ℕ
+abbrev pub first_touched : (address granule : ℕ) → ℕ
 first_touched address granule = max address (16 * granule)
 
--- a granule with this memory tag, or with none where it isn't mapped, agrees with the pointer's tag
-abbrev pub granule_agrees : ℕ → ℕ → Option ℕ → ℕ → Bool
+-- a granule with this memory tag, or with none if it isn't mapped, agrees with the pointer's tag
+abbrev pub granule_agrees : (pointer end : ℕ) → Option ℕ → (last : ℕ) → Bool
 granule_agrees pointer end None last = false
 granule_agrees pointer end (Some memory) last = tags_agree pointer memory end last
 
--- what an access of so many bytes at a number finds in a granule with this memory tag and last byte, or none where it agrees
-abbrev pub mismatch_in : ℕ → ℕ → ℕ → Option ℕ → ℕ → Option Mismatch
+-- what an access of so many bytes at a number finds in a granule with this memory tag and last byte, or none if it agrees
+abbrev pub mismatch_in : (number size granule : ℕ) → Option ℕ → (last : ℕ) → Option Mismatch
 mismatch_in number size granule None last = Some (Unmapped (first_touched (address_of number) granule))
 mismatch_in number size granule (Some memory) last =
     if tags_agree (pointer_tag number) memory (end_in_granule (address_of number) size granule) last then None
     else Some (Tags (16 * granule) (pointer_tag number) memory last (end_in_granule (address_of number) size granule))
 
--- what is found in the first of so many granules from one on that doesn't agree, or none where each agrees
-unfoldable pub first_mismatch : (ℕ → Option ℕ) → (ℕ → ℕ) → ℕ → ℕ → ℕ → ℕ → Option Mismatch
+-- what is found in the first of so many granules from one on that doesn't agree, or none if each agrees
+unfoldable pub first_mismatch : (ℕ → Option ℕ) → (ℕ → ℕ) → (number size count granule : ℕ) → Option Mismatch
 first_mismatch tag last number size zero granule = None
 first_mismatch tag last number size (suc count) granule =
     elim (mismatch_in number size granule (tag granule) (last granule)) [
@@ -50,14 +50,14 @@ first_mismatch tag last number size (suc count) granule =
       | Some found ↦ Some found
     ]
 
--- What refuses an access of so many bytes at a number, or none where the tag rule passes it: the touched granules are
--- taken upwards, and the first that isn't mapped or doesn't agree is answered. An access of no bytes passes.
-abbrev pub refusing_of : (ℕ → Option ℕ) → (ℕ → ℕ) → ℕ → ℕ → Option Mismatch
+-- What refuses an access of so many bytes at a number, or none if the tag rule passes it: the touched granules are taken
+-- upwards, and the first that isn't mapped or doesn't agree is the one. An access of no bytes passes.
+abbrev pub refusing_of : (ℕ → Option ℕ) → (ℕ → ℕ) → (number size : ℕ) → Option Mismatch
 refusing_of tag last number size =
     first_mismatch tag last number size (granules_touched (address_of number) size) (granule_of (address_of number))
 
 -- The tag rule passes the access: the granule of each touched address is mapped and agrees.
-abbrev pub PassesTagRule : (ℕ → Option ℕ) → (ℕ → ℕ) → ℕ → ℕ → Type 0
+abbrev pub PassesTagRule : (ℕ → Option ℕ) → (ℕ → ℕ) → (number size : ℕ) → Type 0
 PassesTagRule tag last number size =
     (address : ℕ) → address_of number ≤ address → address < address_of number + size
     → granule_agrees (pointer_tag number) (end_in_granule (address_of number) size (granule_of address)) (tag (granule_of address)) (last (granule_of address))

@@ -1,10 +1,10 @@
 ghost use Rattle.hw_base.specs.AddressMap.{rounded_size};
 ghost use Rattle.hw_shadow.specs.declared.mismatch.Mismatch.{Mismatch};
 ghost use Rattle.hw_shadow.specs.ObjectTags.{object_tags, tag_in};
-ghost use Rattle.hw_shadow.specs.TagRule.{tags_agree, refusing_of, PassesTagRule, IsFirstMismatch};
-ghost use Rattle.std.specs.Prelude.{◌≡◌, ℕ, ◌/◌, ◌<◌, ◌==◌, ◌↔◌, true, false, if◌then◌else◌, Option, Some, None, [], ◌∷◌, length, slice_get};
+ghost use Rattle.hw_shadow.specs.TagRule.{refusing_of, PassesTagRule, IsFirstMismatch};
+ghost use Rattle.std.specs.Prelude.{◌≡◌, ℕ, ◌/◌, ◌<◌, ◌↔◌, Option, Some, None, length, slice_get};
 
-/// Nothing refuses an access exactly where each granule that it touches is mapped and agrees.
+/// Nothing refuses an access exactly if each granule that it touches is mapped and agrees.
 pub fn each_touched_granule_agrees()
     ensures { (tag : ℕ → Option ℕ) (last : ℕ → ℕ) (number size : ℕ)
         → ((refusing_of tag last number size ≡ None) ↔ PassesTagRule tag last number size) }
@@ -16,28 +16,8 @@ pub fn the_first_refuses()
         → refusing_of tag last number size ≡ Some found → (k : ℕ) × IsFirstMismatch tag last number size k found }
 {}
 
-/// An object's granules are as many as its rounded size has, and each has its tag. Examples: 17 bytes with the tag 0x2a,
-/// an empty object, and 32 bytes.
+/// An object's granules are as many as its rounded size has, and each has its tag.
 pub fn objects_have_tags()
     ensures count { (size tag : ℕ) → length (object_tags size tag) ≡ rounded_size size / 16 }
     ensures each { (size tag k : ℕ) → k < rounded_size size / 16 → slice_get (object_tags size tag) k ≡ Some (tag_in size tag k) }
-    ensures seventeen_bytes { object_tags 17 42 ≡ 42 ∷ 1 ∷ [] }
-    ensures no_bytes { object_tags 0 42 ≡ 0 ∷ [] }
-    ensures whole_granules { object_tags 32 42 ≡ 42 ∷ 42 ∷ [] }
-{}
-
-/// Examples of the tag rule, with the pointer's tag 0x2a. In a short granule of 10 bytes an access that ends at its byte 9
-/// agrees, and one that ends at its byte 10 doesn't; with another last byte none does. A pointer tag of 10 agrees with that
-/// granule wherever the access ends, so a byte past the object's end isn't detected. An access of 4 bytes from byte 14 of an
-/// object of 17 bytes on is refused in its second granule.
-pub fn short_granules_agree()
-    ensures within { tags_agree 42 10 10 42 ≡ true }
-    ensures past_the_end { tags_agree 42 10 11 42 ≡ false }
-    ensures another_last_byte { tags_agree 42 10 10 43 ≡ false }
-    ensures by_chance { tags_agree 10 10 16 42 ≡ true }
-    ensures equal { tags_agree 42 42 16 0 ≡ true }
-    ensures second_granule { refusing_of (λ g. if g == 0 then Some 42 else (if g == 1 then Some 1 else None)) (λ _g. 42) 3026418949592973326 4
-        ≡ Some (Mismatch.Tags 16 42 1 42 2) }
-    ensures first_unmapped { refusing_of (λ g. if g == 0 then Some 42 else None) (λ _g. 42) 3026418949592973326 1000000000000000000
-        ≡ Some (Mismatch.Unmapped 16) }
 {}

@@ -11,7 +11,7 @@ use Rattle.tbi_memory.specs.declared.mem_fault.MemFault.TheVariants.{Unmapped}
 use Rattle.tbi_memory.specs.MappedBytes.{byte_at, after_byte}
 use Rattle.tbi_memory.specs.AddressSpace.{AddressSpace, check}
 use Rattle.ir_lib.specs.declared.string_fault.StringFault.{StringFault}
-use Rattle.ir_lib.specs.ByteOrder.{byte_order}
+use Rattle.hw_base.specs.Bytes.{byte_order}
 use Rattle.ir_lib.specs.Strings.{next_byte, scan_bound, string_from, string_at, unmapped_at, after_checked, checked_from, checked_string}
 
 pub byte_order-same : (bytes : List ℕ) → byte_order bytes bytes ≡ Equal
@@ -23,21 +23,21 @@ byte_order-same (byte ∷ bytes) =
     ∙ (cond-false (nat_lt byte byte) Greater (byte_order bytes bytes) no ∙ byte_order-same bytes)
 
 -- a byte of a string, by what is at its address
-string_on : Option ℕ → ℕ → Result (List ℕ) MemFault → Result (List ℕ) MemFault
+unfoldable pub string_on : Option ℕ → ℕ → Result (List ℕ) MemFault → Result (List ℕ) MemFault
 string_on o address rest = elim o [ None ↦ Err (Unmapped address) | Some byte ↦ elim (byte == 0) [ true ↦ Ok [] | false ↦ after_byte byte rest ] ]
 
-checked_on : Option Mismatch → Option ℕ → ℕ → Result (List ℕ) StringFault → Result (List ℕ) StringFault
+unfoldable pub checked_on : Option Mismatch → Option ℕ → ℕ → Result (List ℕ) StringFault → Result (List ℕ) StringFault
 checked_on refused o number rest =
     elim refused [
       | Some found ↦ Err (record { at = number; found = found })
       | None ↦ elim o [ None ↦ Err (unmapped_at number) | Some byte ↦ elim (byte == 0) [ true ↦ Ok [] | false ↦ after_checked byte rest ] ]
     ]
 
-string_from-suc : (space : AddressSpace) (steps number : ℕ) → string_from space (suc steps) number ≡ string_on (byte_at space.bytes (address_of number)) (address_of number) (string_from space steps (next_byte number))
+pub string_from-suc : (space : AddressSpace) (steps number : ℕ) → string_from space (suc steps) number ≡ string_on (byte_at space.bytes (address_of number)) (address_of number) (string_from space steps (next_byte number))
 unfolding string_from string_on
 string_from-suc space steps number = refl
 
-checked_from-suc : (space : AddressSpace) (steps number : ℕ) → checked_from space (suc steps) number ≡ checked_on (check space number 1) (byte_at space.bytes (address_of number)) number (checked_from space steps (next_byte number))
+pub checked_from-suc : (space : AddressSpace) (steps number : ℕ) → checked_from space (suc steps) number ≡ checked_on (check space number 1) (byte_at space.bytes (address_of number)) number (checked_from space steps (next_byte number))
 unfolding checked_from checked_on
 checked_from-suc space steps number = refl
 
@@ -45,10 +45,10 @@ checked_from-zero : (space : AddressSpace) (number : ℕ) → checked_from space
 unfolding checked_from
 checked_from-zero space number = refl
 
-string_end : Bool → ℕ → Result (List ℕ) MemFault → Result (List ℕ) MemFault
+unfoldable pub string_end : Bool → ℕ → Result (List ℕ) MemFault → Result (List ℕ) MemFault
 string_end t byte rest = elim t [ true ↦ Ok [] | false ↦ after_byte byte rest ]
 
-checked_end : Bool → ℕ → Result (List ℕ) StringFault → Result (List ℕ) StringFault
+unfoldable pub checked_end : Bool → ℕ → Result (List ℕ) StringFault → Result (List ℕ) StringFault
 checked_end t byte rest = elim t [ true ↦ Ok [] | false ↦ after_checked byte rest ]
 
 end-ok : (t : Bool) (byte : ℕ) (bytes : List ℕ) (checked : Result (List ℕ) StringFault) (rest : Result (List ℕ) MemFault) → ((more : List ℕ) → checked ≡ Ok more → rest ≡ Ok more) → checked_end t byte checked ≡ Ok bytes → string_end t byte rest ≡ Ok bytes
@@ -72,4 +72,4 @@ checked_from-ok space (suc steps) number bytes h =
     (sym (checked_from-suc space steps number) ∙ h)
 
 pub checked_string-ok : (space : AddressSpace) (number : ℕ) (bytes : List ℕ) → checked_string space number ≡ Ok bytes → string_at space number ≡ Ok bytes
-checked_string-ok space number bytes h = checked_from-ok space (scan_bound space) number bytes h
+checked_string-ok space number bytes h = checked_from-ok space (scan_bound space number) number bytes h

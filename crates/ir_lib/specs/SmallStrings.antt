@@ -1,5 +1,5 @@
 -- Spaces for examples: "hi" with its 0 in an object of 3 bytes with the tag 42 at the heap's start, and the same in an
--- object of 2 bytes, where no 0 stands inside.
+-- object of 2 bytes, which has no 0 inside.
 use Rattle.std.specs.Prelude.{[], ◌∷◌}
 use Rattle.tbi_memory.specs.AddressSpace.{AddressSpace, with_bytes}
 use Rattle.tbi_memory.specs.ObjectMemory.{with_fresh_object}

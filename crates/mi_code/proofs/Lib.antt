@@ -1,1 +1,2 @@
+pub mod AddedLength
 pub mod CodePlaces

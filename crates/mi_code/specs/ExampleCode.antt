@@ -22,7 +22,7 @@ source_at i op = record { mark = Source (site_in_main i); op = op }
 abbrev pub added_at : ℕ → MiOp → Mi
 added_at i op = record { mark = Added (site_in_main i); op = op }
 
--- the code of the module that writes one byte just behind a block of 10 bytes: one check is added, before the store
+-- the code of the module that writes one byte just past a block of 10 bytes: one check is added, before the store
 abbrev pub code_with_one_check : List CodeFunction
 code_with_one_check =
     record {

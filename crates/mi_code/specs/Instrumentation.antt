@@ -1,10 +1,9 @@
 -- The instrumented code of a module: the code of each function's instructions in order of the text, each with the tag work
 -- that is added before it (Clang's HWASan design document, section "Compiler changes"). The form of the code is this
 -- project's choice.
-use Rattle.std.specs.Prelude.{ℕ, suc, ◌+◌, ◌*◌, List, [], ◌∷◌, ◌++◌, length, map, take, Option, Some, None}
+use Rattle.std.specs.Prelude.{ℕ, suc, ◌+◌, if◌then◌else◌, List, [], ◌∷◌, ◌++◌, length, map, take, Option, Some, None}
 use Rattle.hw_base.specs.declared.pointers.Site.{Site}
 use Rattle.ir_core.specs.declared.operations.Op.{Op}
-use Rattle.ir_core.specs.declared.operations.Op.TheVariants as source
 use Rattle.ir_core.specs.declared.ir_module.Block.{Block}
 use Rattle.ir_core.specs.declared.ir_module.Inst.{Inst}
 use Rattle.ir_core.specs.declared.ir_module.Function.{Function}
@@ -14,13 +13,14 @@ use Rattle.mi_code.specs.declared.code_functions.CodeFunction.{CodeFunction}
 use Rattle.mi_code.specs.declared.code_functions.Mark.TheVariants.{Entry, Added, Source}
 use Rattle.mi_code.specs.declared.code_functions.Mi.{Mi}
 use Rattle.ir_core.specs.Blocks.{block_holding}
+use Rattle.ir_core.specs.Operations.{is_phi}
+use Rattle.mi_code.specs.MachineOperands.{registers_of}
 use Rattle.mi_code.specs.SourceCode.{source_code}
 use Rattle.mi_code.specs.TagChecks.{added_code, enter_code}
 
--- how many machine instructions stand for a source instruction by itself: none for a phi, else one
+-- how many machine instructions a source instruction has by itself: none for a phi, else one
 abbrev pub own_length : Op → ℕ
-own_length (source.Phi ty entries) = 0
-own_length _ = 1
+own_length op = if is_phi op then 0 else 1
 
 -- the machine instructions of an instruction of a function whose variables have these sizes
 abbrev pub instruction_length : Module → List ℕ → Inst → ℕ
@@ -31,8 +31,8 @@ unfoldable pub code_length : Module → List ℕ → List Inst → ℕ
 code_length m sizes [] = 0
 code_length m sizes (inst ∷ insts) = instruction_length m sizes inst + code_length m sizes insts
 
--- the place in the code of the first machine instruction of instruction number i: behind the entry and the instructions
--- before it
+-- the place in the code of the first machine instruction of instruction number i: after the entry and the code of the
+-- instructions before it
 abbrev pub place_of : Module → Function → ℕ → ℕ
 place_of m f i = length (enter_code f.allocas) + code_length m f.allocas (take i f.insts)
 
@@ -66,7 +66,7 @@ code_of_instruction m f site inst =
     ++ source_mi site (source_code m f (starts_of m f) (block_holding f.blocks site.inst) inst.result inst.op)
 
 -- the code of a function's instructions from number i on
-unfoldable pub code_from : Module → Function → ℕ → ℕ → List Inst → List Mi
+unfoldable pub code_from : Module → Function → (func i : ℕ) → List Inst → List Mi
 code_from m f func i [] = []
 code_from m f func i (inst ∷ insts) =
     code_of_instruction m f (record { func = func; inst = i }) inst ++ code_from m f func (suc i) insts
@@ -75,7 +75,7 @@ code_from m f func i (inst ∷ insts) =
 unfoldable pub code_of_function : Module → ℕ → Function → CodeFunction
 code_of_function m func f =
     record {
-      registers = 2 * length f.regs;
+      registers = registers_of f;
       params = f.params;
       insts = map entry_mi (enter_code f.allocas) ++ code_from m f func 0 f.insts;
       starts = starts_of m f;

@@ -1,9 +1,9 @@
+pub mod AddressCode
 pub mod EdgeMoves
 pub mod ExampleCode
-pub mod IndexSteps
 pub mod Instrumentation
 pub mod LibraryCode
 pub mod MachineOperands
 pub mod SourceCode
 pub mod TagChecks
-pub mod TypeSizes
+pub mod Widths

@@ -1,9 +1,10 @@
 -- The machine registers and operands that stand for those of the source. A pointer is its 64-bit number, and null is 0.
 -- This project's choice.
-use Rattle.std.specs.Prelude.{ℕ, zero, suc, ◌*◌, List, [], ◌∷◌, map, Option, Some, None}
+use Rattle.std.specs.Prelude.{ℕ, zero, suc, ◌*◌, List, [], ◌∷◌, length, map, Option, Some, None}
 use Rattle.ir_core.specs.declared.operands.Operand.{Operand}
 use Rattle.ir_core.specs.declared.operands.Operand.TheVariants.{Reg, Int, Null, Global}
 use Rattle.ir_core.specs.declared.operands.Placed.{Placed}
+use Rattle.ir_core.specs.declared.ir_module.Function.{Function}
 use Rattle.mi_code.specs.declared.operands.MiOperand.{MiOperand}
 use Rattle.mi_code.specs.declared.operands.MiOperand.TheVariants.{Reg as MachineRegister, Num, Global as GlobalAddress}
 
@@ -30,20 +31,17 @@ argument [] k = Num 0
 argument (arg ∷ args) zero = operand_of arg
 argument (arg ∷ args) (suc k) = argument args k
 
--- the number that a constant operand is
-abbrev pub constant_number : Operand → ℕ
-constant_number (Int n) = n
-constant_number _ = 0
+-- how many machine registers a frame of a function has
+abbrev pub registers_of : Function → ℕ
+registers_of f = 2 * length f.regs
 
-abbrev pub constant_of : Placed → ℕ
-constant_of placed = constant_number placed.operand
+-- The machine register of an instruction's result. A result without a register goes to the one after the last, which no frame
+-- has: a write to it changes nothing.
+abbrev pub result_register : Function → Option ℕ → ℕ
+result_register f None = registers_of f
+result_register f (Some r) = machine_register r
 
--- the machine register of an instruction's result; an instruction that gives a value has one
-abbrev pub result_register : Option ℕ → ℕ
-result_register None = 0
-result_register (Some r) = machine_register r
-
--- the machine register of a call's result, where it has one
+-- the machine register of a call's result, if it has one
 abbrev pub call_result : Option ℕ → Option ℕ
 call_result None = None
 call_result (Some r) = Some (machine_register r)

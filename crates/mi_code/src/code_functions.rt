@@ -3,7 +3,7 @@ use hw_base::Site;
 use ir_core::{OwnedList, ValueList};
 
 /// To which step a machine instruction belongs: to the step that calls its function, to that of the source instruction
-/// before which it was added, or to that of the source instruction that it stands for.
+/// before which it was added, or to that of the source instruction that it does.
 #[derive(Clone, Copy)]
 pub enum Mark {
     Entry,

@@ -1,7 +1,7 @@
 use ir_core::ValueList;
 
 /// A value that a machine instruction names: a machine register of its function, a number as its bits without sign, or
-/// the tagged address `off` bytes behind the start of a global variable.
+/// the tagged address `off` bytes after the start of a global variable.
 #[derive(Clone, Copy)]
 pub enum MiOperand {
     Reg(u32),

@@ -4,7 +4,8 @@ use ir_core::Lib;
 
 /// What a machine instruction does. The first six are the tag work that the instrumentation adds (Clang's HWASan design
 /// document, sections "Memory accesses" and "Stack"); the others do what a source instruction says, on numbers. `to` is
-/// the machine register of the result; a pair's second part goes to the next one. Sizes are in bytes, widths in bits.
+/// the machine register of the result, the one after the last of a frame for a result without a register; a pair's second
+/// part goes to the next one. Sizes are in bytes, widths in bits.
 #[derive(Drop)]
 pub enum MiOp {
     /// The variables of the entered frame get their memory and tags.

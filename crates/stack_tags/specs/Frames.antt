@@ -1,7 +1,8 @@
 -- The frames of each task: where their variables stand, and the variables' tags (Clang, "Hardware-assisted AddressSanitizer
 -- Design Documentation", "Stack"). The places, and what is remembered of ended frames, are this project's choice. A frame
--- without variables isn't listed.
-use Rattle.std.specs.Prelude.{ℕ, ◌+◌, ◌-◌, ◌*◌, List, [], ◌∷◌, ◌++◌, option_map, unwrap_or, take, slice_get, sum_by}
+-- without variables isn't listed. Frames follow each other downwards from the stack's end, so what they take together is how
+-- far the newest one has come.
+use Rattle.std.specs.Prelude.{◌≡◌, ℕ, ◌+◌, ◌-◌, ◌*◌, List, [], ◌∷◌, ◌++◌, option_map, unwrap_or, take, slice_get, sum_by}
 use Rattle.hw_base.specs.declared.endings.Full.{Full}
 use Rattle.hw_base.specs.declared.endings.Space.TheVariants.{Stack}
 use Rattle.hw_base.specs.AddressMap.{AddressMap, rounded_size}
@@ -51,7 +52,7 @@ frame_size sizes = sum_by rounded_size sizes
 abbrev pub stack_end : StacksState → ℕ → ℕ
 stack_end stacks task = stacks.from + (task + 1) * stacks.stack_length
 
--- the lowest address of the newest living frame, or the stack's end where there is none
+-- the lowest address of the newest living frame, or the stack's end if there is none
 abbrev pub top_above : ℕ → List LivingFrame → ℕ
 top_above end [] = end
 top_above end (newest ∷ frames) = newest.frame.low
@@ -76,6 +77,21 @@ abbrev pub variable_of : LivingFrame → ℕ → ℕ
 variable_of living k =
     tagged_address (frame_tag_of living.frame.word k) (living.frame.low + frame_size (take k living.sizes))
 
--- the tagged address of variable k of a task's newest frame, or 0 where it has none
-abbrev pub variable_number : StacksState → ℕ → ℕ → ℕ
+-- the tagged address of variable k of a task's newest frame, or 0 if it has none
+abbrev pub variable_number : StacksState → (task k : ℕ) → ℕ
 variable_number stacks task k = unwrap_or (option_map (λ newest. variable_of newest k) (slice_get (frames_of stacks task).living 0)) 0
+
+-- ---- what each stack keeps
+
+-- each of these frames ends where the one before it begins, and the oldest at the stack's end
+abbrev pub FollowEachOther : ℕ → List LivingFrame → Type 0
+FollowEachOther end [] = Unit {0}
+FollowEachOther end (newest ∷ older) = (newest.frame.low + frame_size newest.sizes ≡ top_above end older) × FollowEachOther end older
+
+-- the frames of each task do
+abbrev pub AreStacks : StacksState → Type 0
+AreStacks stacks = (task : ℕ) → FollowEachOther (stack_end stacks task) (frames_of stacks task).living
+
+-- the sum of what frames take
+abbrev pub size_sum : List LivingFrame → ℕ
+size_sum frames = sum_by (λ frame. frame_size frame.sizes) frames

@@ -9,4 +9,7 @@ mod laws;
 
 pub use examples::frames_by_example;
 pub use frame_record::FrameRecord;
-pub use laws::{a_frame_ends_at_the_one_before, frames_stay_inside, leaving_undoes_entering};
+pub use laws::{
+    a_frame_ends_at_the_one_before, frames_stay_inside, leaving_undoes_entering,
+    the_living_size_is_the_sum,
+};

@@ -1,1 +1,2 @@
 pub mod HeapBlockLemmas
+pub mod LivingSizeLemmas

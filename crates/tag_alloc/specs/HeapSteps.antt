@@ -1,7 +1,7 @@
 -- Births and deaths of heap blocks, with their tags and memory (Clang, "Hardware-assisted AddressSanitizer Design
--- Documentation", "Heap"; that a block is zero at birth is this project's choice). A birth draws one tag word where there is
--- a place, and a death draws one.
-use Rattle.std.specs.Prelude.{ℕ, List, ◌∷◌, Option, Some, None, take, slice_set, Result, Ok, Err}
+-- Documentation", "Heap"; that a block is zero at birth is this project's choice). A birth draws one tag word if there is a
+-- place, and a death draws one.
+use Rattle.std.specs.Prelude.{ℕ, ◌+◌, ◌-◌, List, ◌∷◌, Some, None, take, slice_set, Result, Ok, Err}
 use Rattle.hw_base.specs.declared.endings.Full.{Full}
 use Rattle.hw_base.specs.AddressMap.{rounded_size}
 use Rattle.hw_tags.specs.Tag.{heap_tag_of, free_tag_of}
@@ -23,7 +23,7 @@ pub record AfterDeath : Type 0 where
   pub space : AddressSpace
 
 -- a new block, tagged by a word, with the number of its birth and its chain
-abbrev pub new_block : ℕ → ℕ → ℕ → ℕ → ℕ → Block
+abbrev pub new_block : (word place size birth born : ℕ) → Block
 new_block word place size birth born =
     record { at = place; size = size; tag = heap_tag_of word; birth = birth; born = born }
 
@@ -31,13 +31,13 @@ new_block word place size birth born =
 unfoldable pub after_birth : HeapState → AddressSpace → Block → AfterBirth
 after_birth heap space block =
     record {
-      heap = record heap { living = with_block block heap.living };
+      heap = record heap { living = with_block block heap.living; living_size = heap.living_size + rounded_size block.size };
       space = with_fresh_object space block.at block.size block.tag;
       number = block_number block;
     }
 
 -- a block of this size at its place, for a tag word, the number of the birth and its chain; or the heap is full
-unfoldable pub allocated : HeapState → AddressSpace → ℕ → ℕ → ℕ → ℕ → Result AfterBirth Full
+unfoldable pub allocated : HeapState → AddressSpace → (word size birth born : ℕ) → Result AfterBirth Full
 allocated heap space word size birth born =
     elim (place_of_new heap size) [
       | None ↦ Err (heap_full heap size)
@@ -50,22 +50,13 @@ remembered heap task freed = slice_set heap.freed task (take heap.ring (freed �
 
 -- After the death of a block, for a tag word, the task that frees it and the chain: its granules have a free tag, it is no
 -- longer in the table, and the task remembers it. No byte changes.
-unfoldable pub after_death : HeapState → AddressSpace → ℕ → ℕ → ℕ → Block → AfterDeath
+unfoldable pub after_death : HeapState → AddressSpace → (word task died : ℕ) → Block → AfterDeath
 after_death heap space word task died block =
     record {
       heap = record heap {
         living = without_block block.at heap.living;
+        living_size = heap.living_size - rounded_size block.size;
         freed = remembered heap task (record { block = block; died = died });
       };
       space = tag_plain space block.at (rounded_size block.size) (free_tag_of word block.tag);
     }
-
--- after a free that passed; the number 0 changes nothing
-abbrev pub after_free : HeapState → AddressSpace → ℕ → ℕ → ℕ → Option Block → AfterDeath
-after_free heap space word task died None = record { heap = heap; space = space }
-after_free heap space word task died (Some block) = after_death heap space word task died block
-
--- how many tag words a free draws
-abbrev pub free_words : Option Block → ℕ
-free_words None = 0
-free_words (Some block) = 1

@@ -1,5 +1,5 @@
 -- Heaps for examples, over the small address space: empty, with a block of 17 bytes and the tag 42 at its start, and with
--- that and a block of 16 bytes and the tag 4 behind it.
+-- that and a block of 16 bytes and the tag 4 after it.
 use Rattle.tbi_memory.specs.SmallSpace.{small_map, small_space}
 use Rattle.tag_alloc.specs.declared.blocks.Block.{Block}
 use Rattle.tag_alloc.specs.HeapBlocks.{HeapState, heap_at_start, with_task}

@@ -16,14 +16,15 @@ ghost use Rattle.tag_alloc.specs.SmallHeap.{
 };
 ghost use Rattle.std.specs.Prelude.{◌≡◌, ℕ, Some, None, Ok, Err, [], ◌∷◌};
 
-/// Births on a heap of 64 bytes: 17 bytes for the word 41 have the tag 0x2a and stand at the heap's start; 16 bytes then
-/// stand behind their two granules; 17 bytes have no place any more. Where the first block was freed its place is the least
-/// again.
+/// Births on a heap of 64 bytes: 17 bytes for the word 41 have the tag 0x2a and are at the heap's start; 16 bytes then
+/// follow their two granules; 17 bytes have no place any more. When the first block was freed its place is the least again.
 pub fn births_by_example()
     ensures first { allocated empty_heap small_space 41 17 1 0 ≡ Ok heap_of_one }
     ensures number { heap_of_one.number ≡ 3026418950129844224 }
     ensures last_byte { byte_at heap_of_one.space.bytes 536870943 ≡ Some 42 }
     ensures second { allocated heap_of_one.heap heap_of_one.space 3 16 2 0 ≡ Ok heap_of_two }
+    ensures living_size { heap_of_two.heap.living_size ≡ 48 }
+    ensures freed_size { heap_of_one_freed.heap.living_size ≡ 16 }
     ensures in_order { heap_of_two.heap.living ≡ first_block ∷ second_block ∷ [] }
     ensures full { allocated heap_of_two.heap heap_of_two.space 0 17 3 0 ≡ Err (record { space = Heap; asked = 17; living = 48 }) }
     ensures again { place_of_new heap_of_one_freed.heap 17 ≡ Some 536870912 }

@@ -8,4 +8,4 @@ mod laws;
 
 pub use blocks::{Block, FreeMismatch, Freed};
 pub use examples::{births_by_example, frees_by_example};
-pub use laws::{the_free_rule, the_table_of_blocks};
+pub use laws::{the_free_rule, the_living_size_is_the_sum, the_table_of_blocks};

@@ -1,3 +1,4 @@
 pub mod ListLemmas
 pub mod MappedBytesLemmas
 pub mod SpaceLemmas
+pub mod StartLemmas

@@ -1,7 +1,7 @@
 -- The address space and its accesses by numbers, whose top byte is ignored (Arm Architecture Reference Manual, "Address
 -- tagging"). Which ranges are mapped, that all begins as zero with the tag 0, and the order of refusals are this project's
 -- choice.
-use Rattle.std.specs.Prelude.{ℕ, ◌+◌, ◌*◌, List, [], ◌∷◌, length, map, replicate, Bool, ◌&&◌, nat_lt, if◌then◌else◌, Option, Some, None, unwrap_or, Result, Ok, Err}
+use Rattle.std.specs.Prelude.{ℕ, ◌+◌, ◌*◌, List, [], ◌∷◌, length, map, replicate, Bool, true, false, ◌&&◌, nat_le, nat_lt, if◌then◌else◌, Option, Some, None, unwrap_or, Result, Ok, Err}
 use Rattle.hw_base.specs.AddressMap.{AddressMap, granule_of}
 use Rattle.hw_base.specs.TaggedAddress.{address_of}
 use Rattle.hw_shadow.specs.declared.mismatch.Mismatch.{Mismatch}
@@ -12,7 +12,7 @@ use Rattle.tbi_memory.specs.declared.mem_fault.MemFault.TheVariants.{ReadOnly}
 use Rattle.tbi_memory.specs.MappedBytes.{Range, byte_at, write, read_bytes}
 
 -- mapped bytes by address; the tag of each mapped granule by the granule's number; the constants' first address, and the
--- address after their last
+-- address after their last one
 pub record AddressSpace : Type 0 where
   pub bytes : List Range
   pub shadow : List Range
@@ -20,13 +20,22 @@ pub record AddressSpace : Type 0 where
   pub constants_end : ℕ
 
 -- a range of so many zeros
-abbrev pub zeros : ℕ → ℕ → Range
+unfoldable pub zeros : (at count : ℕ) → Range
 zeros at count = record { at = at; bytes = replicate count 0 }
 
--- a mapped range: its first address and its count of bytes, both multiples of 16
+-- A mapped range: its first address and its count of bytes, both multiples of 16; or its first granule and its count of
+-- granules.
 pub record Mapped : Type 0 where
   pub at : ℕ
   pub count : ℕ
+
+-- an address is in it
+abbrev pub is_in : ℕ → Mapped → Bool
+is_in address mapped = nat_le mapped.at address && nat_lt address (mapped.at + mapped.count)
+
+-- its granules
+abbrev pub granules_of : Mapped → Mapped
+granules_of mapped = record { at = granule_of mapped.at; count = granule_of mapped.count }
 
 -- what is mapped: constants, variables, the stacks of all tasks, and the heap
 abbrev pub mapped_ranges : AddressMap → Layout → List Mapped
@@ -37,17 +46,26 @@ mapped_ranges places layout =
     ∷ record { at = places.heap_at; count = layout.heap }
     ∷ []
 
+-- the byte of an address at the start, by whether the address is mapped
+abbrev pub zero_if : Bool → Option ℕ
+zero_if true = Some 0
+zero_if false = None
+
+-- ranges of zeros
+abbrev pub all_zeros : List Mapped → List Range
+all_zeros mapped = map (λ range. zeros range.at range.count) mapped
+
 -- at the start all bytes are zero, and all tags are 0
 abbrev pub space_at_start : AddressMap → Layout → AddressSpace
 space_at_start places layout =
     record {
-      bytes = map (λ mapped. zeros mapped.at mapped.count) (mapped_ranges places layout);
-      shadow = map (λ mapped. zeros (granule_of mapped.at) (granule_of mapped.count)) (mapped_ranges places layout);
+      bytes = all_zeros (mapped_ranges places layout);
+      shadow = all_zeros (map granules_of (mapped_ranges places layout));
       constants_at = places.globals_at;
       constants_end = places.globals_at + layout.constants;
     }
 
--- the tag of the granule that a number points into, or none where it isn't mapped
+-- the tag of the granule that a number points into, or none if it isn't mapped
 abbrev pub tag_at : AddressSpace → ℕ → Option ℕ
 tag_at space number = byte_at space.shadow (granule_of (address_of number))
 
@@ -55,26 +73,26 @@ tag_at space number = byte_at space.shadow (granule_of (address_of number))
 abbrev pub last_byte : List Range → ℕ → ℕ
 last_byte ranges granule = unwrap_or (byte_at ranges (16 * granule + 15)) 0
 
--- what refuses an access of so many bytes at a number, by the tags and bytes of memory, or none where it passes
-abbrev pub check : AddressSpace → ℕ → ℕ → Option Mismatch
+-- what refuses an access of so many bytes at a number, by the tags and bytes of memory, or none if it passes
+abbrev pub check : AddressSpace → (number size : ℕ) → Option Mismatch
 check space number size = refusing_of (byte_at space.shadow) (last_byte space.bytes) number size
 
 -- so many bytes at a number, or the first address of them that isn't mapped
-abbrev pub read : AddressSpace → ℕ → ℕ → Result (List ℕ) MemFault
+abbrev pub read : AddressSpace → (number count : ℕ) → Result (List ℕ) MemFault
 read space number count = read_bytes space.bytes (address_of number) count
 
 -- some of so many bytes from an address on is a constant's
-abbrev pub meets_constants : AddressSpace → ℕ → ℕ → Bool
+abbrev pub meets_constants : AddressSpace → (address count : ℕ) → Bool
 meets_constants space address count =
     nat_lt 0 count && nat_lt address space.constants_end && nat_lt space.constants_at (address + count)
 
--- why these bytes can't be overwritten, or none where they can
+-- why these bytes can't be overwritten, or none if they can
 abbrev pub refused_write : Bool → Result (List ℕ) MemFault → Option MemFault
 refused_write is_constant (Err fault) = Some fault
 refused_write is_constant (Ok old) = if is_constant then Some ReadOnly else None
 
 -- why so many bytes at a number can't be written: the first address that isn't mapped, or else that a constant is met
-abbrev pub write_fault : AddressSpace → ℕ → ℕ → Option MemFault
+abbrev pub write_fault : AddressSpace → (number count : ℕ) → Option MemFault
 write_fault space number count =
     refused_write (meets_constants space (address_of number) count) (read space number count)
 
@@ -91,22 +109,5 @@ written space number bytes =
     ]
 
 -- the space after one byte was written so many times from a number on, or why it can't be
-unfoldable pub filled : AddressSpace → ℕ → ℕ → ℕ → Result AddressSpace MemFault
-filled space number count byte =
-    elim (write_fault space number count) [
-      | Some fault ↦ Err fault
-      | None ↦ Ok (with_bytes space (address_of number) (replicate count byte))
-    ]
-
--- the space after so many bytes were copied to a number from another; all are read before one is written
-unfoldable pub moved : AddressSpace → ℕ → ℕ → ℕ → Result AddressSpace MemFault
-moved space to from count =
-    elim (read space from count) [
-      | Err fault ↦ Err fault
-      | Ok bytes ↦ written space to bytes
-    ]
-
--- what the space is after an operation: as it was where that was refused
-abbrev pub space_after : Result AddressSpace MemFault → AddressSpace → AddressSpace
-space_after (Ok space) old = space
-space_after (Err fault) old = old
+abbrev pub filled : AddressSpace → (number count byte : ℕ) → Result AddressSpace MemFault
+filled space number count byte = written space number (replicate count byte)

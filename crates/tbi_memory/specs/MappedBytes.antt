@@ -14,18 +14,18 @@ pub record Range : Type 0 where
 abbrev pub byte_in : Range → ℕ → Option ℕ
 byte_in range address = if nat_le range.at address then slice_get range.bytes (address - range.at) else None
 
--- the byte at an address, or none where it isn't mapped
+-- the byte at an address, or none if it isn't mapped
 unfoldable pub byte_at : List Range → ℕ → Option ℕ
 byte_at [] address = None
 byte_at (range ∷ ranges) address = option_or (byte_in range address) (byte_at ranges address)
 
 -- a range with this byte at an address; outside the range nothing changes
-abbrev pub set_in : Range → ℕ → ℕ → Range
+abbrev pub set_in : Range → (address byte : ℕ) → Range
 set_in range address byte =
     if nat_le range.at address then record range { bytes = slice_set range.bytes (address - range.at) byte } else range
 
--- memory with this byte at an address; where it isn't mapped nothing changes
-abbrev pub set_byte : List Range → ℕ → ℕ → List Range
+-- memory with this byte at an address; if it isn't mapped, nothing changes
+abbrev pub set_byte : List Range → (address byte : ℕ) → List Range
 set_byte ranges address byte = map (λ range. set_in range address byte) ranges
 
 -- memory with these bytes from an address on
@@ -39,7 +39,7 @@ after_byte byte (Ok bytes) = Ok (byte ∷ bytes)
 after_byte byte (Err fault) = Err fault
 
 -- so many bytes from an address on, or the first address of them that isn't mapped
-unfoldable pub read_bytes : List Range → ℕ → ℕ → Result (List ℕ) MemFault
+unfoldable pub read_bytes : List Range → (address count : ℕ) → Result (List ℕ) MemFault
 read_bytes ranges address zero = Ok []
 read_bytes ranges address (suc count) =
     elim (byte_at ranges address) [

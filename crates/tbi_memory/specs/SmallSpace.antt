@@ -1,4 +1,4 @@
--- A small address space for examples: the program's first addresses, with stacks of 64 bytes for two tasks, a heap of 64
+-- A small address space for examples: the first addresses of the program's map, with stacks of 64 bytes for two tasks, a heap of 64
 -- bytes, one constant and one variable of 16 bytes. The definitions of memory, blocks, frames and globals compute on it.
 use Rattle.hw_base.specs.AddressMap.{AddressMap}
 use Rattle.tbi_memory.specs.declared.layout.Layout.{Layout}

@@ -3,7 +3,7 @@ ghost use Rattle.hw_shadow.specs.declared.mismatch.Mismatch.{Mismatch};
 ghost use Rattle.hw_shadow.specs.declared.mismatch.Mismatch.TheVariants.{Tags};
 ghost use Rattle.tbi_memory.specs.declared.mem_fault.MemFault.{MemFault};
 ghost use Rattle.tbi_memory.specs.declared.mem_fault.MemFault.TheVariants.{Unmapped, ReadOnly};
-ghost use Rattle.tbi_memory.specs.AddressSpace.{tag_at, check, read, written, filled, moved};
+ghost use Rattle.tbi_memory.specs.AddressSpace.{tag_at, check, read, written, filled};
 ghost use Rattle.tbi_memory.specs.MappedBytes.{byte_at};
 ghost use Rattle.tbi_memory.specs.SmallSpace.{small_space, space_of_seventeen};
 ghost use Rattle.std.specs.Prelude.{◌≡◌, ℕ, Some, None, Ok, Err, List, [], ◌∷◌};
@@ -31,14 +31,12 @@ pub fn objects_in_memory()
     ensures past_the_end { check space_of_seventeen (tagged_address 42 536870912) 18 ≡ Some (Tags 536870928 42 1 42 2) }
 {}
 
-/// What memory refuses: a write to a constant, and the first unmapped address of a read, a write, a fill and a copy. An
-/// unmapped byte counts before a constant. A copy of overlapping bytes reads them all first.
+/// What memory refuses: a write to a constant, and the first unmapped address of a read, a write and a fill. An unmapped
+/// byte counts before a constant.
 pub fn refused_accesses()
     ensures constant { written small_space 65551 (1 ∷ []) ≡ Err ReadOnly }
     ensures nothing { written small_space 65551 [] ≡ Ok small_space }
     ensures unmapped_after_a_constant { written small_space 65551 (1 ∷ 2 ∷ []) ≡ Err (Unmapped 65552) }
     ensures read_past { read small_space 536870975 2 ≡ Err (Unmapped 536870976) }
-    ensures filled_past { filled small_space 536870912 1000000000000000000 7 ≡ Err (Unmapped 536870976) }
-    ensures copied_from { moved small_space 0 536870974 4 ≡ Err (Unmapped 536870976) }
-    ensures copied_to { moved small_space 0 536870912 4 ≡ Err (Unmapped 0) }
+    ensures filled_past { filled small_space 536870912 65 7 ≡ Err (Unmapped 536870976) }
 {}

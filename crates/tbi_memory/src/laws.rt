@@ -1,9 +1,12 @@
 ghost use Rattle.hw_base.specs.AddressMap.{rounded_size, granule_of};
 ghost use Rattle.hw_base.specs.TaggedAddress.{address_of};
 ghost use Rattle.hw_shadow.specs.ObjectTags.{object_tags};
-ghost use Rattle.tbi_memory.specs.AddressSpace.{AddressSpace, read, written};
+ghost use Rattle.hw_base.specs.AddressMap.{AddressMap};
+ghost use Rattle.tbi_memory.specs.declared.layout.Layout.{Layout};
+ghost use Rattle.tbi_memory.specs.AddressSpace.{AddressSpace, granules_of, is_in, mapped_ranges, read, space_at_start, written, zero_if};
 ghost use Rattle.tbi_memory.specs.MappedBytes.{Range, byte_at, write};
 ghost use Rattle.tbi_memory.specs.ObjectMemory.{with_fresh_object};
+ghost use Rattle.std.specs.List.{list_any};
 ghost use Rattle.std.specs.Prelude.{
   ◌≡◌,
   ℕ,
@@ -11,6 +14,7 @@ ghost use Rattle.std.specs.Prelude.{
   ◌/◌,
   ◌<◌,
   ◌≤◌,
+  map,
   Some,
   List,
   length,
@@ -19,7 +23,17 @@ ghost use Rattle.std.specs.Prelude.{
   slice_get,
 };
 
-/// A write changes its own bytes, where they were mapped, and no other byte.
+/// At the start the mapped ranges are mapped and nothing else is; each byte is zero, and each tag is 0.
+pub fn all_is_zero_at_the_start()
+    ensures bytes { (places : AddressMap) (layout : Layout) (address : ℕ)
+        → byte_at (space_at_start places layout).bytes address
+        ≡ zero_if (list_any (is_in address) (mapped_ranges places layout)) }
+    ensures tags { (places : AddressMap) (layout : Layout) (granule : ℕ)
+        → byte_at (space_at_start places layout).shadow granule
+        ≡ zero_if (list_any (is_in granule) (map granules_of (mapped_ranges places layout))) }
+{}
+
+/// A write changes its own bytes, if they were mapped, and no other byte.
 pub fn a_write_changes_its_bytes_alone()
     ensures below { (ranges : List Range) (address : ℕ) (bytes : List ℕ) (other : ℕ)
         → other < address → byte_at (write ranges address bytes) other ≡ byte_at ranges other }

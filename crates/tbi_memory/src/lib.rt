@@ -11,7 +11,7 @@ mod mem_fault;
 pub use examples::{a_small_space, objects_in_memory, refused_accesses};
 pub use hw_shadow::Mismatch;
 pub use laws::{
-    a_write_changes_its_bytes_alone, fresh_objects_stay_inside, nothing_is_unmapped,
+    a_write_changes_its_bytes_alone, all_is_zero_at_the_start, fresh_objects_stay_inside, nothing_is_unmapped,
     what_is_written_is_read,
 };
 pub use layout::Layout;

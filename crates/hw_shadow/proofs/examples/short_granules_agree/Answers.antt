@@ -1,6 +1,6 @@
 use Rattle.std.proofs.Common.{refl}
 use Rattle.hw_shadow.specs.TagRule.{first_mismatch}
-use Rattle.hw_shadow.proofs.laws.short_granules_agree.Goals as goal
+use Rattle.hw_shadow.proofs.examples.short_granules_agree.Goals as goal
 
 pub returns-clause-second_granule : goal.returns-clause-second_granule
 unfolding first_mismatch

@@ -1,5 +1,5 @@
 use Rattle.mi_code.proofs.CodePlaces.{length-code_of_instruction, drop-code_of_function, starts_of_blocks}
-use Rattle.mi_code.proofs.laws.each_instruction_stands_at_its_place.Goals as goal
+use Rattle.mi_code.proofs.laws.each_instruction_has_its_place.Goals as goal
 
 pub returns-clause-length : goal.returns-clause-length
 returns-clause-length c = length-code_of_instruction
