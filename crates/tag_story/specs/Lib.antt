@@ -1,0 +1,6 @@
+pub mod Judging
+pub mod ShownStory
+pub mod Story
+pub mod StoryTags
+pub mod Telling
+pub mod ToldRun
