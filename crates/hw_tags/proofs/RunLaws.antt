@@ -13,7 +13,7 @@ after_reports-one report reports (Ended w later ending) = refl
 after_reports-one report reports IsStuck = refl
 
 -- going on after one more report is going on before it
-after_report-resumed : {S F H E : Type 0} → (step : Seen S F → Outcome S F H E) (nothing : H) (turns : ℕ → ℕ) (m : ℕ) (report : H) (run : Run S F H E) → after_report report (resumed step nothing turns m run) ≡ resumed step nothing turns m (after_report report run)
+pub after_report-resumed : {S F H E : Type 0} → (step : Seen S F → Outcome S F H E) (nothing : H) (turns : ℕ → ℕ) (m : ℕ) (report : H) (run : Run S F H E) → after_report report (resumed step nothing turns m run) ≡ resumed step nothing turns m (after_report report run)
 after_report-resumed step nothing turns m report (Spent w reports) = sym (after_reports-one report reports (run_from step nothing turns m w))
 after_report-resumed step nothing turns m report (Ended w reports ending) = refl
 after_report-resumed step nothing turns m report IsStuck = refl

@@ -1,20 +1,21 @@
--- Runs one after the other.
-use Rattle.std.proofs.Common.{◌≡◌, refl, ℕ, zero, suc, ◌+◌, ap, ◌∙◌, zero-add, suc-add}
-use Rattle.ir_machine.specs.MachineState.{MachineSetting, MachineWorld, MachineEnding, MachineOutcome, GoesOn, HasEnded}
-use Rattle.ir_machine.specs.MachineRun.{after, machine_run, machine_step}
+-- Runs under bounds.
+use Rattle.std.proofs.Common.{◌≡◌, ℕ, ◌+◌, List, [], refl, ◌∙◌, ap}
+use Rattle.hw_tags.specs.TaskRuns.{Next, Last, NoStep, Ended, after_report, after_step, run_from, resumed}
+use Rattle.hw_tags.proofs.RunLaws.{run_from-add, after_report-resumed}
+use Rattle.ir_machine.specs.State.{MachineSetting, MachineWorld, MachineReport, MachineEnding, MachineWorldStep}
+use Rattle.ir_machine.specs.Runs.{machine_run, step_in}
+use Rattle.ir_machine.specs.Start.{machine_start}
 
--- what goes on in two parts goes on in the second behind the first
-after-after : (first second whole : MachineWorld → MachineOutcome) → ((world : MachineWorld) → whole world ≡ after second (first world)) → (outcome : MachineOutcome) → after whole outcome ≡ after second (after first outcome)
-after-after first second whole same (GoesOn world) = same world
-after-after first second whole same (HasEnded world ending) = refl
+sum-from : (setting : MachineSetting) (turns : ℕ → ℕ) (n m : ℕ) (start : MachineWorldStep) → after_step (run_from (step_in setting) [] turns (n + m)) start ≡ resumed (step_in setting) [] turns m (after_step (run_from (step_in setting) [] turns n) start)
+sum-from setting turns n m (Next w report) =
+    ap (after_report report) (run_from-add (step_in setting) [] turns n m w)
+    ∙ after_report-resumed (step_in setting) [] turns m report (run_from (step_in setting) [] turns n w)
+sum-from setting turns n m (Last w report ending) = refl
+sum-from setting turns n m NoStep = refl
 
-pub machine_run-sum : (setting : MachineSetting) (turn_word : ℕ → ℕ) (n m : ℕ) (world : MachineWorld) → machine_run setting turn_word (n + m) world ≡ after (machine_run setting turn_word m) (machine_run setting turn_word n world)
+pub machine_run-sum : (setting : MachineSetting) (turns : ℕ → ℕ) (n m : ℕ) → machine_run setting turns (n + m) ≡ resumed (step_in setting) [] turns m (machine_run setting turns n)
 unfolding machine_run
-machine_run-sum setting turn_word zero m world = ap (λ k. machine_run setting turn_word k world) (zero-add m)
-machine_run-sum setting turn_word (suc n) m world =
-    ap (λ k. machine_run setting turn_word k world) (suc-add n m)
-    ∙ after-after (machine_run setting turn_word n) (machine_run setting turn_word m) (machine_run setting turn_word (n + m)) (machine_run-sum setting turn_word n m) (machine_step setting turn_word world)
+machine_run-sum setting turns n m = sum-from setting turns n m (machine_start setting)
 
-pub machine_run-ended : (setting : MachineSetting) (turn_word : ℕ → ℕ) (n m : ℕ) (world last : MachineWorld) (ending : MachineEnding) → machine_run setting turn_word n world ≡ HasEnded last ending → machine_run setting turn_word (n + m) world ≡ HasEnded last ending
-machine_run-ended setting turn_word n m world last ending e =
-    machine_run-sum setting turn_word n m world ∙ ap (after (machine_run setting turn_word m)) e
+pub machine_run-ended : (setting : MachineSetting) (turns : ℕ → ℕ) (n m : ℕ) (last : MachineWorld) (reports : List MachineReport) (ending : MachineEnding) → machine_run setting turns n ≡ Ended last reports ending → machine_run setting turns (n + m) ≡ Ended last reports ending
+machine_run-ended setting turns n m last reports ending e = machine_run-sum setting turns n m ∙ ap (resumed (step_in setting) [] turns m) e

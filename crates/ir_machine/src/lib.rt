@@ -1,6 +1,5 @@
 //! The machine that runs instrumented code: memory with tags, blocks, frames, globals and tasks, a step of one task by each
-//! machine instruction, and whole runs by turn words. So far it is a definition, with its laws and examples; the machine's
-//! code is proved to be this run, and reports are made from its endings.
+//! machine instruction, and whole runs by turn words. It is a definition, with its laws and examples.
 #![tactic(auto)]
 
 mod examples;
