@@ -5,6 +5,8 @@
 
 mod examples;
 mod judgement;
+mod laws;
 
 pub use examples::judged_violations;
 pub use judgement::{Coincidence, Judgement, Refusing, Short};
+pub use laws::{granules_have_one_owner, stories_are_laid_out, stories_go_on};
