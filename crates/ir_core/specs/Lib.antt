@@ -2,6 +2,7 @@ pub mod Blocks
 pub mod Examples
 pub mod Externals
 pub mod Faults
+pub mod FurtherExamples
 pub mod Holding
 pub mod IndexSteps
 pub mod Layout

@@ -4,6 +4,7 @@
 
 mod examples;
 mod found;
+mod further_examples;
 mod laws;
 
 pub use examples::{
@@ -11,4 +12,8 @@ pub use examples::{
     a_written_last_byte_hides_an_overflow, runs_exit_and_trap, turn_words_decide_a_race,
 };
 pub use found::{Found, Raw};
+pub use further_examples::{
+    blocks_are_checked, blocks_are_zero_and_grow, constants_and_strings, input_and_numbers,
+    tasks_wait_and_end,
+};
 pub use laws::runs_go_on;

@@ -1,0 +1,27 @@
+use Rattle.std.proofs.Common.{refl}
+use Rattle.ir_machine.specs.Shown.{shown_run}
+use Rattle.ir_machine.proofs.further_examples.tasks_wait_and_end.Goals as goal
+
+pub returns-clause-join : goal.returns-clause-join
+unfolding shown_run
+returns-clause-join c = refl
+
+pub returns-clause-join_waits : goal.returns-clause-join_waits
+unfolding shown_run
+returns-clause-join_waits c = refl
+
+pub returns-clause-join_stays : goal.returns-clause-join_stays
+unfolding shown_run
+returns-clause-join_stays c = refl
+
+pub returns-clause-unlock : goal.returns-clause-unlock
+unfolding shown_run
+returns-clause-unlock c = refl
+
+pub returns-clause-lock : goal.returns-clause-lock
+unfolding shown_run
+returns-clause-lock c = refl
+
+pub returns-clause-exit : goal.returns-clause-exit
+unfolding shown_run
+returns-clause-exit c = refl
