@@ -1,5 +1,5 @@
 -- Laws of the places of globals.
-use Rattle.std.proofs.Common.{◌≡◌, ℕ, zero, suc, ◌+◌, ◌≤◌, true, false, List, [], ◌∷◌, Some, ◌∙◌, ap, arith, take}
+use Rattle.std.proofs.Common.{◌≡◌, ℕ, zero, suc, ◌+◌, ◌%◌, ◌<◌, ◌≤◌, Bool, true, false, List, [], ◌∷◌, Some, None, refl, ◌∙◌, ap, arith, take}
 use Rattle.std.specs.Prelude.{slice_get, sum_by, if◌then◌else◌, option_map}
 use Rattle.std.specs.List.{enumerate_from}
 use Rattle.std.proofs.lemmas.Bool.{cond-true, cond-false}
@@ -49,3 +49,91 @@ variables-within places layouts globals k global h c =
     let s = sum-before (λ (g : GlobalVar). if g.constant then 0 else rounded_size (global_size layouts g)) globals k global h in
     let f : (if global.constant then 0 else size) ≡ size = cond-false global.constant 0 size c in
     within (place_of_global places layouts globals k global) (variables_at places layouts globals) (variables_size layouts (take k globals)) (variables_size layouts globals) (if global.constant then 0 else size) size e s f
+
+-- what is at an earlier place, and before it, is no more than what is before a later place
+sum-between : {A : Type 0} (f : A → ℕ) (xs : List A) (k j : ℕ) (x : A) → k < j → slice_get xs k ≡ Some x → sum_by f (take k xs) + f x ≤ sum_by f (take j xs)
+sum-between f [] k j x below h = absurd (cc)
+sum-between f (y ∷ ys) k zero x below h = omega arith
+sum-between f (y ∷ ys) zero (suc j) x below h = let same : f y ≡ f x = ap f (cc) in let e = sum_by-cons f y (take j ys) in omega arith
+sum-between f (y ∷ ys) (suc k) (suc j) x below h =
+    let e = sum_by-cons f y (take j ys) in
+    let d = sum_by-cons f y (take k ys) in
+    let r = sum-between f ys k j x (omega arith) h in
+    omega arith
+
+-- the place of a global that isn't the last ends at or before that of a later one of its kind
+pub constants-between : (places : AddressMap) (layouts : List TypeLayout) (globals : List GlobalVar) (k j : ℕ) (global other : GlobalVar) → k < j → slice_get globals k ≡ Some global → global.constant ≡ true → other.constant ≡ true → place_of_global places layouts globals k global + rounded_size (global_size layouts global) ≤ place_of_global places layouts globals j other
+unfolding constants_size
+constants-between places layouts globals k j global other below h c d =
+    let size : ℕ = rounded_size (global_size layouts global) in
+    let first : place_of_global places layouts globals k global ≡ places.globals_at + constants_size layouts (take k globals) =
+    cond-true global.constant (places.globals_at + constants_size layouts (take k globals)) (variables_at places layouts globals + variables_size layouts (take k globals)) c in
+    let second : place_of_global places layouts globals j other ≡ places.globals_at + constants_size layouts (take j globals) =
+    cond-true other.constant (places.globals_at + constants_size layouts (take j globals)) (variables_at places layouts globals + variables_size layouts (take j globals)) d in
+    let s = sum-between (λ (g : GlobalVar). if g.constant then rounded_size (global_size layouts g) else 0) globals k j global below h in
+    let f : (if global.constant then size else 0) ≡ size = cond-true global.constant size 0 c in
+    let t = within (place_of_global places layouts globals k global) places.globals_at (constants_size layouts (take k globals)) (constants_size layouts (take j globals)) (if global.constant then size else 0) size first s f in
+    omega (arith, t, second)
+
+pub variables-between : (places : AddressMap) (layouts : List TypeLayout) (globals : List GlobalVar) (k j : ℕ) (global other : GlobalVar) → k < j → slice_get globals k ≡ Some global → global.constant ≡ false → other.constant ≡ false → place_of_global places layouts globals k global + rounded_size (global_size layouts global) ≤ place_of_global places layouts globals j other
+unfolding variables_size
+variables-between places layouts globals k j global other below h c d =
+    let size : ℕ = rounded_size (global_size layouts global) in
+    let first : place_of_global places layouts globals k global ≡ variables_at places layouts globals + variables_size layouts (take k globals) =
+    cond-false global.constant (places.globals_at + constants_size layouts (take k globals)) (variables_at places layouts globals + variables_size layouts (take k globals)) c in
+    let second : place_of_global places layouts globals j other ≡ variables_at places layouts globals + variables_size layouts (take j globals) =
+    cond-false other.constant (places.globals_at + constants_size layouts (take j globals)) (variables_at places layouts globals + variables_size layouts (take j globals)) d in
+    let s = sum-between (λ (g : GlobalVar). if g.constant then 0 else rounded_size (global_size layouts g)) globals k j global below h in
+    let f : (if global.constant then 0 else size) ≡ size = cond-false global.constant 0 size c in
+    let t = within (place_of_global places layouts globals k global) (variables_at places layouts globals) (variables_size layouts (take k globals)) (variables_size layouts (take j globals)) (if global.constant then 0 else size) size first s f in
+    omega (arith, t, second)
+
+get-enumerate-none : {A : Type 0} (xs : List A) (from k : ℕ) → slice_get xs k ≡ None → slice_get (enumerate_from from xs) k ≡ None
+get-enumerate-none [] from k h = refl
+get-enumerate-none (y ∷ ys) from zero h = absurd (cc)
+get-enumerate-none (y ∷ ys) from (suc k) h = get-enumerate-none ys (from + 1) k h
+
+-- there is no descriptor where there is no global
+pub get-descriptors-none : (places : AddressMap) (layouts : List TypeLayout) (globals : List GlobalVar) (word k : ℕ) → slice_get globals k ≡ None → slice_get (descriptors_of places layouts globals word) k ≡ None
+get-descriptors-none places layouts globals word k h =
+    slice_get-map (λ (numbered : ℕ × GlobalVar). descriptor_of places layouts globals word numbered.0 numbered.1) (enumerate_from 0 globals) k
+    ∙ ap (option_map (λ (numbered : ℕ × GlobalVar). descriptor_of places layouts globals word numbered.0 numbered.1)) (get-enumerate-none globals 0 k h)
+
+rounded-aligned : (size : ℕ) → rounded_size size % 16 ≡ 0
+rounded-aligned zero = refl
+rounded-aligned (suc n) = omega arith
+
+sum-aligned : {A : Type 0} (f : A → ℕ) (xs : List A) → ((x : A) → f x % 16 ≡ 0) → sum_by f xs % 16 ≡ 0
+sum-aligned f [] each = refl
+sum-aligned f (x ∷ xs) each =
+    let e = sum_by-cons f x xs in
+    let first = each x in
+    let rest = sum-aligned f xs each in
+    omega (arith, e, first, rest)
+
+chosen-aligned : (t : Bool) (a b : ℕ) → a % 16 ≡ 0 → b % 16 ≡ 0 → (if t then a else b) % 16 ≡ 0
+chosen-aligned true a b h k = h
+chosen-aligned false a b h k = k
+
+constants_size-aligned : (layouts : List TypeLayout) (globals : List GlobalVar) → constants_size layouts globals % 16 ≡ 0
+unfolding constants_size
+constants_size-aligned layouts globals =
+    sum-aligned (λ (g : GlobalVar). if g.constant then rounded_size (global_size layouts g) else 0) globals
+    (λ g. chosen-aligned g.constant (rounded_size (global_size layouts g)) 0 (rounded-aligned (global_size layouts g)) refl)
+
+variables_size-aligned : (layouts : List TypeLayout) (globals : List GlobalVar) → variables_size layouts globals % 16 ≡ 0
+unfolding variables_size
+variables_size-aligned layouts globals =
+    sum-aligned (λ (g : GlobalVar). if g.constant then 0 else rounded_size (global_size layouts g)) globals
+    (λ g. chosen-aligned g.constant 0 (rounded_size (global_size layouts g)) refl (rounded-aligned (global_size layouts g)))
+
+pub variables_at-aligned : (places : AddressMap) (layouts : List TypeLayout) (globals : List GlobalVar) → variables_at places layouts globals % 16 ≡ 0
+variables_at-aligned places layouts globals = omega arith
+
+-- the place of each global is a multiple of 16
+pub place-aligned : (places : AddressMap) (layouts : List TypeLayout) (globals : List GlobalVar) (k : ℕ) (global : GlobalVar) → places.globals_at % 16 ≡ 0 → place_of_global places layouts globals k global % 16 ≡ 0
+place-aligned places layouts globals k global start =
+    let constants = constants_size-aligned layouts (take k globals) in
+    let variables = variables_size-aligned layouts (take k globals) in
+    let page = variables_at-aligned places layouts globals in
+    chosen-aligned global.constant (places.globals_at + constants_size layouts (take k globals)) (variables_at places layouts globals + variables_size layouts (take k globals)) (omega (arith, start, constants)) (omega (arith, page, variables))

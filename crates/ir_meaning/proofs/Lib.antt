@@ -1,7 +1,8 @@
-pub mod DeadBirths
-pub mod DeadEndings
-pub mod DeadRuns
-pub mod DeadSteps
-pub mod Numbers
+pub mod BirthChangeLaws
+pub mod ChangeEndings
 pub mod ReadBack
+pub mod RunChanges
 pub mod RunLaws
+pub mod StartLaws
+pub mod StepChanges
+pub mod StringLaws

@@ -24,7 +24,8 @@ abbrev pub is_living : Life → Bool
 is_living Living = true
 is_living (Dead task chain) = false
 
--- an object: its size in bytes, whether it is a constant, its life, and its bytes, which are as many as its size
+-- an object: its size in bytes, whether it is a constant, its life, and its bytes. A living object has as many bytes as its
+-- size, and a dead one has none
 pub record SourceObject : Type 0 where
   pub size : ℕ
   pub constant : Bool
@@ -69,25 +70,25 @@ size_in (Some x) = x.size
 abbrev pub fresh_object : ℕ → SourceObject
 fresh_object size = record { size = size; constant = false; life = Living; bytes = replicate size (Data 0) }
 
--- a list with f of the item at a place, where there is one
+-- a birth of objects of these sizes
+abbrev pub fresh_birth : Region → (task : ℕ) → (born : List Site) → (sizes : List ℕ) → Birth
+fresh_birth region task born sizes = record { region = region; task = task; born = born; objects = map fresh_object sizes }
+
+-- a list with f of the item at a place, if there is one
 unfoldable pub changed_at : {X : Type 0} → (X → X) → List X → ℕ → List X
 changed_at f [] i = []
 changed_at f (x ∷ xs) zero = f x ∷ xs
 changed_at f (x ∷ xs) (suc i) = x ∷ changed_at f xs i
 
--- what lives ends; what is dead stays as it is
-abbrev pub ended_life : ℕ → List Site → Life → Life
-ended_life task chain Living = Dead task chain
-ended_life task chain (Dead by at) = Dead by at
-
+-- what lives ends, and its bytes are gone; what is dead stays as it is
 abbrev pub ended_object : ℕ → List Site → SourceObject → SourceObject
-ended_object task chain x = record x { life = ended_life task chain x.life }
+ended_object task chain x = if is_living x.life then record x { life = Dead task chain; bytes = [] } else x
 
 abbrev pub ended_birth : ℕ → List Site → Birth → Birth
 ended_birth task chain birth = record birth { objects = map (ended_object task chain) birth.objects }
 
--- the births after all objects of one of them ended
-abbrev pub after_death : List Birth → ℕ → ℕ → List Site → List Birth
+-- the births after all objects of one of them ended, by a task and at a chain of sites
+abbrev pub after_death : List Birth → (number task : ℕ) → List Site → List Birth
 after_death births number task chain = changed_at (ended_birth task chain) births number
 
 -- ---- bytes of objects
@@ -101,7 +102,7 @@ written_from bytes off (byte ∷ more) = written_from (slice_set bytes off byte)
 abbrev pub written_object : ℕ → List SourceByte → SourceObject → SourceObject
 written_object off bytes x = if is_living x.life then record x { bytes = written_from x.bytes off bytes } else x
 
-abbrev pub written_birth : ℕ → ℕ → List SourceByte → Birth → Birth
+abbrev pub written_birth : (index off : ℕ) → List SourceByte → Birth → Birth
 written_birth index off bytes birth = record birth { objects = changed_at (written_object off bytes) birth.objects index }
 
 -- the births after a write through a pointer; nothing is written through one based on null
@@ -110,6 +111,6 @@ put_bytes births Null off bytes = births
 put_bytes births (Object o) off bytes = changed_at (written_birth o.index off bytes) births o.birth
 
 -- so many bytes through a pointer
-abbrev pub bytes_at : List Birth → Base → ℕ → ℕ → List SourceByte
+abbrev pub bytes_at : List Birth → Base → (off count : ℕ) → List SourceByte
 bytes_at births Null off count = []
 bytes_at births (Object o) off count = take count (drop off (bytes_in (get_object births o)))

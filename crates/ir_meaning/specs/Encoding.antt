@@ -1,10 +1,11 @@
 -- How values lie in memory (LLVM Language Reference, "Data Layout", specification `e`: the least significant byte lies at the
 -- lowest address). That bytes of pointers are pieces, and that no integer is read over them, is this project's choice.
 use Rattle.std.specs.Prelude.{ℕ, ◌+◌, ◌%◌, ◌^◌, Bool, false, ◌&&◌, ◌==◌, if◌then◌else◌, List, [], ◌∷◌, map, Option, Some, None, option_map}
+use Rattle.hw_base.specs.declared.pointers.Base.{Base}
 use Rattle.hw_base.specs.declared.pointers.Base.TheVariants.{Null, Object}
 use Rattle.hw_base.specs.declared.pointers.Obj.{Obj}
 use Rattle.hw_base.specs.Bytes.{le_bytes, le_number}
-use Rattle.ir_meaning.specs.Values.{Value, Integer, Address, IntegerAndBit, SourceByte, Data, Piece}
+use Rattle.ir_meaning.specs.Values.{Value, Address, SourceByte, Data, Piece}
 
 -- the low bytes of a number, the least significant one first
 abbrev pub number_bytes : ℕ → ℕ → List SourceByte
@@ -15,20 +16,17 @@ abbrev pub pointer_pieces : Obj → ℕ → List SourceByte
 pointer_pieces o off =
     Piece o off 0 ∷ Piece o off 1 ∷ Piece o off 2 ∷ Piece o off 3 ∷ Piece o off 4 ∷ Piece o off 5 ∷ Piece o off 6 ∷ Piece o off 7 ∷ []
 
--- The bytes of a value of so many bytes: those of its number for an integer, the offset in 8 bytes for a pointer based on null, and
--- else its pieces. A pair is never stored.
-unfoldable pub bytes_of : ℕ → Value → List SourceByte
-bytes_of count (Integer n) = number_bytes count n
-bytes_of count (Address Null off) = number_bytes 8 off
-bytes_of count (Address (Object o) off) = pointer_pieces o off
-bytes_of count (IntegerAndBit n bit) = []
+-- the bytes of a pointer: those of its offset if it is based on null, and else its pieces
+unfoldable pub pointer_bytes : Base → (off : ℕ) → List SourceByte
+pointer_bytes Null off = number_bytes 8 off
+pointer_bytes (Object o) off = pointer_pieces o off
 
--- one more number in front, where the rest are numbers
+-- one more number in front, if the rest are numbers
 abbrev pub number_before : ℕ → Option (List ℕ) → Option (List ℕ)
 number_before n None = None
 number_before n (Some ns) = Some (n ∷ ns)
 
--- the numbers of bytes, or none where one is a piece
+-- the numbers of bytes, or none if one is a piece
 unfoldable pub data_numbers : List SourceByte → Option (List ℕ)
 data_numbers [] = Some []
 data_numbers (Data n ∷ bytes) = number_before n (data_numbers bytes)

@@ -9,7 +9,7 @@ use Rattle.ir_core.specs.declared.types.TypeLayout.TheVariants.{Known}
 use Rattle.ir_core.specs.declared.operands.Operand.TheVariants.{Reg, Int as Literal}
 use Rattle.ir_core.specs.declared.operands.Part.{Part}
 use Rattle.ir_core.specs.declared.operations.Op.TheVariants.{Phi, Binary, Icmp, Cast, Alloca, Load, Store, CallLib, Br, BrIf, Ret}
-use Rattle.ir_core.specs.declared.lib_functions.Lib.TheVariants.{Malloc, Memcpy, Puts, MutexLock}
+use Rattle.ir_core.specs.declared.lib_functions.Lib.TheVariants.{Malloc, Memcpy, Puts, MutexLock, Getchar}
 use Rattle.ir_core.specs.declared.ir_module.GlobalVar.{GlobalVar}
 use Rattle.ir_core.specs.declared.ir_module.Inst.{Inst}
 use Rattle.ir_core.specs.declared.ir_module.Module.{Module}
@@ -180,4 +180,32 @@ abbrev pub locks_twice : Module
 locks_twice =
     record (example_module (mutex_variable ∷ []) (main_function (i32_type ∷ i32_type ∷ []) 3 (call_lock 0 ∷ call_lock 1 ∷ return_zero ∷ []) ∷ []) 0) {
       declares = declared_function MutexLock i32_type (ptr_type ∷ []) ∷ [];
+    }
+
+-- `main` has a variable, which keeps a block:
+-- define i32 @main() {
+--   %a = alloca ptr
+--   %b = alloca ptr
+--   %p = call ptr @malloc(i64 1)
+--   store ptr %p, ptr %a
+--   ret i32 0
+-- }
+abbrev pub keeps_a_block : Module
+keeps_a_block =
+    with_two_variables (ptr_type ∷ ptr_type ∷ ptr_type ∷ []) 5
+    (pointer_variable 0 0 ∷ pointer_variable 1 1 ∷ call_malloc 2 1 ∷ store_pointer 2 0 ∷ return_zero ∷ [])
+
+-- `%r = call i32 @getchar()`
+abbrev pub call_getchar : ℕ → Inst
+call_getchar r = defines r (CallLib 0 i32_type [] None)
+
+-- define i32 @main() {
+--   %a = call i32 @getchar()
+--   %b = call i32 @getchar()
+--   ret i32 %b
+-- }
+abbrev pub reads_twice : Module
+reads_twice =
+    record (example_module [] (main_function (i32_type ∷ i32_type ∷ []) 3 (call_getchar 0 ∷ call_getchar 1 ∷ effect (Ret (Some (i32_register 1))) ∷ []) ∷ []) 0) {
+      declares = declared_function Getchar i32_type [] ∷ [];
     }

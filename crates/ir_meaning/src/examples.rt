@@ -4,7 +4,7 @@ ghost use Rattle.hw_base.specs.declared.accesses.Kind.TheVariants.{HeapOverflow,
 ghost use Rattle.hw_base.specs.declared.endings.Trap.TheVariants.{DivZero, Unreachable};
 ghost use Rattle.ir_core.specs.Examples.{returns_zero, meets_unreachable, divides_by_zero, overflows_a_block, uses_a_freed_block, uses_a_returned_variable, writes_before_a_block, races_for_a_block};
 ghost use Rattle.ir_meaning.specs.Births.{Dead};
-ghost use Rattle.ir_meaning.specs.SourceRun.{Exited, Trapped, Violated};
+ghost use Rattle.ir_meaning.specs.State.{Exited, Trapped, Violated};
 ghost use Rattle.ir_meaning.specs.Shown.{site, object_of, pointer_to, shown_end, shown_life};
 
 /// Runs that end without a violation, shown by evaluation: an exit with a value, and traps with the chain of the

@@ -3,10 +3,15 @@
 //! functions do nothing when they run: they carry examples shown by evaluation, and laws of the definitions.
 #![tactic(auto)]
 
+mod ends_of_runs;
 mod examples;
 mod laws;
 mod programs;
 
+pub use ends_of_runs::{end_of_the_input, frees_by_the_access_rule, states_after_the_last_step};
 pub use examples::{exits_and_traps, turns_of_two_tasks, violations};
-pub use laws::{runs_under_bounds, what_is_dead_stays, what_was_written_is_read};
+pub use laws::{
+    births_at_the_start, runs_under_bounds, scans_of_strings_end, what_changes_keep,
+    what_steps_do_to_births, what_was_written_is_read,
+};
 pub use programs::small_programs;

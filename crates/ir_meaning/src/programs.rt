@@ -2,7 +2,7 @@ ghost use Rattle.std.specs.Prelude.{◌≡◌, [], ◌∷◌, Some};
 ghost use Rattle.hw_base.specs.declared.accesses.Reason.TheVariants.{IntegerOverPieces};
 ghost use Rattle.hw_base.specs.declared.endings.Trap.TheVariants.{ReadOnly};
 ghost use Rattle.ir_meaning.specs.SmallPrograms.{adds_in_a_loop, reads_a_piece, copies_a_pointer, prints_a_constant, writes_a_constant, locks_twice};
-ghost use Rattle.ir_meaning.specs.SourceRun.{Exited, Trapped, LeftProfile};
+ghost use Rattle.ir_meaning.specs.State.{Exited, Trapped, Outside};
 ghost use Rattle.ir_meaning.specs.Shown.{site, shown_end, shown_spent};
 
 /// Runs of further small programs, shown by evaluation: a loop with phis, a string that is printed, a pointer copied as
@@ -17,7 +17,7 @@ pub fn small_programs()
         ≡ Some (record { ending = Exited 1; step = 9; output = [] }) }
     ensures piece { shown_end reads_a_piece (0 ∷ [])
         ≡ Some (record {
-          ending = LeftProfile IntegerOverPieces 0 (site 0 4 ∷ []);
+          ending = Outside IntegerOverPieces 0 (site 0 4 ∷ []);
           step = 5;
           output = [];
         }) }

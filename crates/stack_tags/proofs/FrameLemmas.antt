@@ -4,7 +4,7 @@ use Rattle.std.specs.Prelude.{slice_get, slice_set, nat_le, unwrap_or, Result, O
 use Rattle.std.proofs.lemmas.List.{length-set}
 use Rattle.std.proofs.lemmas.List.Sums.{sum_by-cons}
 use Rattle.hw_base.specs.declared.endings.Full.{Full}
-use Rattle.hw_base.specs.AddressMap.{rounded_size, granule_of}
+use Rattle.hw_base.specs.AddressMap.{frame_size, rounded_size, granule_of}
 use Rattle.hw_tags.specs.Tag.{frame_tag_of}
 use Rattle.hw_shadow.specs.ObjectTags.{object_tags}
 use Rattle.tbi_memory.specs.MappedBytes.{byte_at}
@@ -12,7 +12,7 @@ use Rattle.tbi_memory.specs.AddressSpace.{AddressSpace}
 use Rattle.tbi_memory.specs.ObjectMemory.{with_fresh_object}
 use Rattle.tbi_memory.proofs.MappedBytesLemmas.{write_below}
 use Rattle.tbi_memory.proofs.SpaceLemmas.{fresh-bytes_below, fresh-bytes_above, fresh-tags_above}
-use Rattle.stack_tags.specs.Frames.{LivingFrame, TaskFrames, StacksState, frames_of, no_frames, frame_size, stack_end, top_of_stack, living_size, low_of_new, stack_full}
+use Rattle.stack_tags.specs.Frames.{LivingFrame, TaskFrames, StacksState, frames_of, no_frames, stack_end, top_of_stack, living_size, low_of_new, stack_full}
 use Rattle.stack_tags.specs.FrameSteps.{StacksAfter, with_variables, new_frame, with_frame, after_entry, entered, without_newest, after_exit, left}
 
 -- a rounded size is whole granules

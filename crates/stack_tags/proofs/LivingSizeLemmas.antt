@@ -1,4 +1,5 @@
 -- What a task's living frames take together is the sum of their sizes.
+use Rattle.hw_base.specs.AddressMap.{frame_size}
 use Rattle.std.proofs.Common.{◌≡◌, ℕ, zero, suc, ◌+◌, ◌-◌, ◌≤◌, Bool, true, false, List, [], ◌∷◌, ◌++◌, Option, Some, None, refl, sym, subst, inl, inr, arith}
 use Rattle.std.specs.Prelude.{slice_get, slice_set, unwrap_or, option_map, nat_le, Result, Ok, Err}
 use Rattle.std.proofs.lemmas.Bool.{cases_eq}
@@ -7,7 +8,7 @@ use Rattle.std.proofs.lemmas.List.Sums.{sum_by-cons}
 use Rattle.hw_base.specs.declared.endings.Full.{Full}
 use Rattle.tbi_memory.specs.AddressSpace.{AddressSpace}
 use Rattle.tbi_memory.proofs.ListLemmas.{slice_get-set_at, slice_get-set_other}
-use Rattle.stack_tags.specs.Frames.{LivingFrame, TaskFrames, StacksState, no_frames, with_task, frames_of, frame_size, stack_end, top_above, top_of_stack, living_size, low_of_new, stack_full, FollowEachOther, AreStacks, size_sum}
+use Rattle.stack_tags.specs.Frames.{LivingFrame, TaskFrames, StacksState, no_frames, with_task, frames_of, stack_end, top_above, top_of_stack, living_size, low_of_new, stack_full, FollowEachOther, AreStacks, size_sum}
 use Rattle.stack_tags.specs.FrameSteps.{StacksAfter, new_frame, with_frame, after_entry, entered, without_newest, after_exit, left}
 use Rattle.stack_tags.proofs.FrameLemmas.{low-ends}
 

@@ -3,12 +3,12 @@
 -- draws one tag word if there is room.
 use Rattle.std.specs.Prelude.{ℕ, ◌+◌, List, [], ◌∷◌, true, false, nat_le, Some, None, take, slice_set, Result, Ok, Err}
 use Rattle.hw_base.specs.declared.endings.Full.{Full}
-use Rattle.hw_base.specs.AddressMap.{rounded_size}
+use Rattle.hw_base.specs.AddressMap.{frame_size, rounded_size}
 use Rattle.hw_tags.specs.Tag.{frame_tag_of}
 use Rattle.tbi_memory.specs.AddressSpace.{AddressSpace}
 use Rattle.tbi_memory.specs.ObjectMemory.{tag_plain, with_fresh_object}
 use Rattle.stack_tags.specs.declared.frame_record.FrameRecord.{FrameRecord}
-use Rattle.stack_tags.specs.Frames.{LivingFrame, TaskFrames, StacksState, frames_of, frame_size, living_size, low_of_new, stack_full}
+use Rattle.stack_tags.specs.Frames.{LivingFrame, TaskFrames, StacksState, frames_of, living_size, low_of_new, stack_full}
 
 -- stacks and memory after a frame was entered or left
 pub record StacksAfter : Type 0 where

@@ -5,7 +5,7 @@
 use Rattle.std.specs.Prelude.{◌≡◌, ℕ, ◌+◌, ◌-◌, ◌*◌, List, [], ◌∷◌, ◌++◌, option_map, unwrap_or, take, slice_get, sum_by}
 use Rattle.hw_base.specs.declared.endings.Full.{Full}
 use Rattle.hw_base.specs.declared.endings.Space.TheVariants.{Stack}
-use Rattle.hw_base.specs.AddressMap.{AddressMap, rounded_size}
+use Rattle.hw_base.specs.AddressMap.{AddressMap, frame_size}
 use Rattle.hw_base.specs.TaggedAddress.{tagged_address}
 use Rattle.hw_tags.specs.Tag.{frame_tag_of}
 use Rattle.stack_tags.specs.declared.frame_record.FrameRecord.{FrameRecord}
@@ -43,10 +43,6 @@ with_task stacks = record stacks { tasks = stacks.tasks ++ no_frames ∷ [] }
 -- the frames of a task
 abbrev pub frames_of : StacksState → ℕ → TaskFrames
 frames_of stacks task = unwrap_or (slice_get stacks.tasks task) no_frames
-
--- the bytes that a frame takes: the sum of its variables' rounded sizes
-abbrev pub frame_size : List ℕ → ℕ
-frame_size sizes = sum_by rounded_size sizes
 
 -- the address after the last of a task's stack
 abbrev pub stack_end : StacksState → ℕ → ℕ

@@ -1,20 +1,7 @@
-ghost use Rattle.hw_base.specs.AddressMap.{AddressMap, granule_of};
+ghost use Rattle.hw_base.specs.AddressMap.{frame_size, AddressMap, granule_of};
 ghost use Rattle.tbi_memory.specs.AddressSpace.{AddressSpace};
 ghost use Rattle.tbi_memory.specs.MappedBytes.{byte_at};
-ghost use Rattle.stack_tags.specs.Frames.{
-  AreStacks,
-  StacksState,
-  size_sum,
-  stacks_at_start,
-  with_task,
-  LivingFrame,
-  frames_of,
-  frame_size,
-  stack_end,
-  top_of_stack,
-  living_size,
-  low_of_new,
-};
+ghost use Rattle.stack_tags.specs.Frames.{AreStacks, StacksState, size_sum, stacks_at_start, with_task, LivingFrame, frames_of, stack_end, top_of_stack, living_size, low_of_new};
 ghost use Rattle.stack_tags.specs.FrameSteps.{StacksAfter, entered, left, with_variables};
 ghost use Rattle.std.specs.Prelude.{◌≡◌, ℕ, ◌+◌, ◌-◌, ◌*◌, ◌/◌, ◌<◌, ◌≤◌, List, length, Ok};
 

@@ -1,0 +1,6 @@
+pub mod BirthPlaces
+pub mod GlobalPlacesTold
+pub mod Owners
+pub mod StoryLaws
+pub mod StoryLists
+pub mod ToldLaws

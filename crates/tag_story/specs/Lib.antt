@@ -1,0 +1,7 @@
+pub mod Judging
+pub mod ShownStory
+pub mod Story
+pub mod StoryFacts
+pub mod StoryTags
+pub mod Telling
+pub mod ToldRun

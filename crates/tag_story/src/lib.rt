@@ -1,0 +1,12 @@
+//! The tags that the objects of a source run would have: the story follows the births and deaths of the run, gives each
+//! object its place and tag, and judges a violation by the tag rule, with no memory and no machine. The definitions are
+//! here, with their laws and examples; what carries the detection theorem is above.
+#![tactic(auto)]
+
+mod examples;
+mod judgement;
+mod laws;
+
+pub use examples::judged_violations;
+pub use judgement::{Coincidence, Judgement, Refusing, Short};
+pub use laws::{granules_have_one_owner, stories_are_laid_out, stories_go_on};
