@@ -1,1 +1,1 @@
-pub mod TaskLemmas
+pub mod FrameLemmas

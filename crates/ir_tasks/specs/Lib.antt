@@ -1,1 +1,1 @@
-pub mod TaskFrames
+pub mod Frames
