@@ -2,6 +2,7 @@ pub mod Causes
 pub mod ClosingBytes
 pub mod Detected
 pub mod Exactness
+pub mod FileReads
 pub mod Groups
 pub mod Judged
 pub mod MachineRuns

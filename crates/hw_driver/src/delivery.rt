@@ -1,4 +1,4 @@
-ghost use Rattle.std.specs.Prelude.{◌≡◌, ◌<◌, ◌≤◌, length};
+ghost use Rattle.std.specs.Prelude.{◌≡◌, ◌≢◌, ◌<◌, ◌≤◌, ◌+◌, ◌-◌, ℕ, length, slice_index};
 ghost use Rattle.hw_driver.specs.Answer.{sink_change, Delivers};
 ghost use Rattle.hw_driver.specs.Decided.{decision_view};
 ghost use Rattle.hw_driver.specs.Sending.{Sends};
@@ -25,6 +25,8 @@ fn send<S: Sink>(sink: &mut S, text: &[u8]) -> Result<(), Failed>
 fn line_length(text: &[u8]) -> usize
     ensures within { result ≤ length text.now }
     ensures some { 0 < length text.now → 0 < result }
+    ensures ends_at_lf { result < length text.now → slice_index text.now (result - 1) ≡ 10 }
+    ensures no_lf_before { (k : ℕ) → k + 1 < result → slice_index text.now k ≢ 10 }
 {
     match text.iter().position(|byte| *byte == b'\n') {
         Some(at) => at + 1,

@@ -4,7 +4,7 @@ ghost use Rattle.std.specs.Io.{ReadsAtMost, WritesAtMost};
 ghost use Rattle.std.specs.Io.KnownBytes.{ReadConsumes, WriteAppends};
 ghost use Rattle.hw_ports.specs.declared.ports.FileError.TheVariants.{OutOfMemory as NoMemory};
 ghost use Rattle.hw_ports.specs.Causes.{HasCause};
-ghost use Rattle.hw_ports.specs.Content.{Content, Reads, failed_after};
+ghost use Rattle.hw_ports.specs.Content.{AddsRead, Content, Reads, failed_after};
 
 use std::alloc::{AllocError, Global};
 use thiserror::Error;
@@ -45,13 +45,16 @@ pub trait Files {
     /// What stands under a name: these bytes, nothing, or something that can't be observed.
     ghost content: { Self → List ℕ → Content };
 
+    /// The names that were read, the oldest first. It only grows.
+    ghost reads: { Self → List (List ℕ) };
+
     /// The names whose reads failed, the oldest first. It only grows, and a name's count of faults is how often it
     /// stands there.
     ghost failed: { Self → List (List ℕ) };
 
     /// Reads the file of a name into `into`, which is empty. `Longer` comes exactly where the read doesn't fail and
-    /// the file has more than `limit` bytes. A name under which nothing stands is `Failed`. Memory for the list of
-    /// failed names is taken before the read. With `Longer` or an error nothing is said of what `into` holds.
+    /// the file has more than `limit` bytes. A name under which nothing stands is `Failed`. Memory for the lists of
+    /// names is taken before the read. With `Longer` or an error nothing is said of what `into` holds.
     fn read(
         &mut self,
         alloc: Global,
@@ -61,6 +64,7 @@ pub trait Files {
     ) -> Result<FileText, FileError>
         requires { into.old.items ≡ [] }
         ensures bytes { Reads (content self.old name.now) limit result into.new.items }
+        ensures reads { AddsRead result (reads self.old) (reads self.new) name.now }
         ensures failed { failed self.new ≡ failed_after result (failed self.old) name.now }
         ensures content { (other : List ℕ) → content self.new other ≡ content self.old other };
 }
