@@ -22,9 +22,8 @@ pub struct RealFiles<R: HostFiles> {
 impl<R: HostFiles> RealFiles<R> {
     /// The host's files, with no read yet. It takes no memory.
     pub fn new(alloc: Global, host: R) -> RealFiles<R>
-        ensures host { result.host ≡ host }
-        ensures reads { result.reads.items ≡ [] }
-        ensures failed { result.failed.items ≡ [] }
+        ensures reads { ⟦<RealFiles<R> as Files>⟧.reads result ≡ [] }
+        ensures failed { ⟦<RealFiles<R> as Files>⟧.failed result ≡ [] }
     {
         RealFiles {
             host,

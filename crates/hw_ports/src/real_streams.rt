@@ -14,8 +14,8 @@ pub struct RealIn<R: Read> {
 impl<R: Read> RealIn<R> {
     /// The reader's bytes as input, with no fault yet.
     pub fn new(inner: R) -> RealIn<R>
-        ensures inner { result.inner ≡ inner }
-        ensures faults { result.faults ≡ 0 }
+        ensures left { ⟦<RealIn<R> as Source>⟧.left result ≡ R.remaining inner }
+        ensures faults { ⟦<RealIn<R> as Source>⟧.faults result ≡ 0 }
     {
         RealIn { inner, faults: 0 }
     }
@@ -51,8 +51,8 @@ pub struct RealOut<W: Write> {
 impl<W: Write> RealOut<W> {
     /// The writer as output, with no fault yet.
     pub fn new(inner: W) -> RealOut<W>
-        ensures inner { result.inner ≡ inner }
-        ensures faults { result.faults ≡ 0 }
+        ensures taken { ⟦<RealOut<W> as Sink>⟧.taken result ≡ W.contents inner }
+        ensures faults { ⟦<RealOut<W> as Sink>⟧.faults result ≡ 0 }
     {
         RealOut { inner, faults: 0 }
     }
