@@ -7,8 +7,10 @@ pub mod Groups
 pub mod Judged
 pub mod MachineRuns
 pub mod Numerals
+pub mod PiecesGiven
 pub mod Regrouped
 pub mod Sent
 pub mod Simulation
 pub mod Spelled
 pub mod Spelling
+pub mod WholeLines

@@ -4,6 +4,7 @@ ghost use Rattle.hw_driver.specs.Line.{Line, line};
 ghost use Rattle.hw_driver.specs.LineView.{texts};
 ghost use Rattle.hw_driver.specs.Program.{Program};
 ghost use Rattle.hw_driver.specs.Answer.{Answers, IsAccepted, files_change, read_of, sink_change, tag_under};
+ghost use Rattle.hw_driver.specs.Lines.{GivesEach, IsLine};
 ghost use Rattle.hw_driver.specs.Promises.{AnswersRises, Closes, HadNoFault, HasItsCause, IsExact, ReadsItsFile};
 ghost use Rattle.hw_driver.specs.Detection.{Detects};
 
@@ -21,8 +22,9 @@ fn answer<F: Files, O: Sink, E: Sink>(
     out: &mut O,
     err: &mut E,
 ) -> Status
-    ensures { Answers (line (texts words.now)) (files_change F.content F.reads F.failed files.old files.new) result
+    ensures answers { Answers (line (texts words.now)) (files_change F.content F.reads F.failed files.old files.new) result
         (sink_change O.taken O.faults out.old out.new) (sink_change E.taken E.faults err.old err.new) }
+    ensures lines { GivesEach IsLine (E.pieces err.old) (E.pieces err.new) }
 {
     let decision = decide(alloc, words, files);
     deliver(&decision, out, err)
@@ -49,6 +51,9 @@ pub fn hwasan<F: Files, I: Source, O: Sink, E: Sink>(
 
     // No input is read.
     ensures input { input.new ≡ input.old }
+
+    // Each piece that is written to `err` is a line, or the rest of one.
+    ensures lines { GivesEach IsLine (E.pieces err.old) (E.pieces err.new) }
 
     // The file of a command is read once, and nothing else is.
     ensures reads { ReadsItsFile (line (texts words.now)) (files_change F.content F.reads F.failed files.old files.new)

@@ -1,10 +1,11 @@
-ghost use Rattle.std.specs.Prelude.{◌≡◌, ◌<◌, ℕ, List, [], length, Ok, IfOk};
+ghost use Rattle.std.specs.Prelude.{◌≡◌, ◌<◌, ℕ, List, [], length, None, Ok, IfOk};
 ghost use Rattle.std.specs.declared.option.Option.{Option};
 ghost use Rattle.std.specs.Io.{ReadsAtMost, WritesAtMost};
 ghost use Rattle.std.specs.Io.KnownBytes.{ReadConsumes, WriteAppends};
 ghost use Rattle.hw_ports.specs.declared.ports.FileError.TheVariants.{OutOfMemory as NoMemory};
 ghost use Rattle.hw_ports.specs.Causes.{HasCause};
 ghost use Rattle.hw_ports.specs.Content.{AddsRead, Content, Reads, failed_after};
+ghost use Rattle.hw_ports.specs.Written.{AddsPiece};
 
 use std::alloc::{AllocError, Global};
 use thiserror::Error;
@@ -91,6 +92,9 @@ pub trait Sink {
     /// The bytes that it took, where that is observable.
     ghost taken: { Self → Option (List ℕ) };
 
+    /// The pieces that it was given, the oldest first, where that is observable.
+    ghost pieces: { Self → Option (List (List ℕ)) } = { λ _. None };
+
     /// How often a write failed. It never falls.
     ghost faults: { Self → ℕ };
 
@@ -101,5 +105,6 @@ pub trait Sink {
         ensures some { IfOk result (λ count. 0 < length piece.now → 0 < count) }
         ensures empty { length piece.now ≡ 0 → result ≡ Ok 0 }
         ensures bytes { WriteAppends (taken self.old) (taken self.new) result piece.now }
+        ensures pieces { AddsPiece (pieces self.old) (pieces self.new) piece.now }
         ensures cause { HasCause (faults self.old) (faults self.new) result };
 }
