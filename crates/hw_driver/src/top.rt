@@ -52,9 +52,6 @@ pub fn hwasan<F: Files, I: Source, O: Sink, E: Sink>(
     // No input is read.
     ensures input { input.new ≡ input.old }
 
-    // Each piece that is written to `err` is a line, or the rest of one.
-    ensures lines { GivesEach IsLine (E.pieces err.old) (E.pieces err.new) }
-
     // The file of a command is read once, and nothing else is.
     ensures reads { ReadsItsFile (line (texts words.now)) (files_change F.content F.reads F.failed files.old files.new)
         (sink_change O.taken O.faults out.old out.new) (sink_change E.taken E.faults err.old err.new) result }
@@ -76,6 +73,9 @@ pub fn hwasan<F: Files, I: Source, O: Sink, E: Sink>(
     // With a fault or without memory, the bytes are a front of those, and the closing line tells which.
     ensures closing { Closes (line (texts words.now)) (files_change F.content F.reads F.failed files.old files.new)
         (sink_change O.taken O.faults out.old out.new) (sink_change E.taken E.faults err.old err.new) result }
+
+    // Each piece that is written to `err` is a line, or the rest of one.
+    ensures lines { GivesEach IsLine (E.pieces err.old) (E.pieces err.new) }
 
     // A report comes exactly at the first violation, and is of that access.
     ensures detects { (l : Line) (bytes : List ℕ) (p : Program) → line (texts words.now) ≡ Some l

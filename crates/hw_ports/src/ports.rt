@@ -46,7 +46,8 @@ pub trait Files {
     /// What stands under a name: these bytes, nothing, or something that can't be observed.
     ghost content: { Self → List ℕ → Content };
 
-    /// The names that were read, the oldest first. It only grows.
+    /// The names that were read, the oldest first. It only grows; a read that ends because memory ran out may leave no
+    /// name, and has read nothing then.
     ghost reads: { Self → List (List ℕ) };
 
     /// The names whose reads failed, the oldest first. It only grows, and a name's count of faults is how often it
@@ -92,7 +93,7 @@ pub trait Sink {
     /// The bytes that it took, where that is observable.
     ghost taken: { Self → Option (List ℕ) };
 
-    /// The pieces that it was given, the oldest first, where that is observable.
+    /// The pieces that it was given, the oldest first, when that is observable.
     ghost pieces: { Self → Option (List (List ℕ)) } = { λ _. None };
 
     /// How often a write failed. It never falls.

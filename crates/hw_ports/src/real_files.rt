@@ -10,8 +10,8 @@ use std::io;
 use std::io::{ErrorKind, Read};
 use std::rt::Files as HostFiles;
 
-/// The host's files. What stands under a name isn't observable: that these reads give the bytes of the file is
-/// trusted. Contracts see the names that were read, and those whose reads failed.
+/// The host's files. What is under a name isn't observable: that these reads give the bytes of the file is tested.
+/// Contracts see the names that were read, and those whose reads failed.
 #[derive(Drop)]
 pub struct RealFiles<R: HostFiles> {
     host: R,
