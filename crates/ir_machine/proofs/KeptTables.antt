@@ -1,7 +1,7 @@
 -- What a step leaves of the tables of a run, and that the steps that go to the next instruction keep them together.
-use Rattle.std.proofs.Common.{◌≡◌, ℕ, suc, ◌≤◌, Bool, true, false, List, [], ◌∷◌, length, Option, Some, None, refl, ◌∙◌, ap, arith}
+use Rattle.std.proofs.Common.{◌≡◌, ℕ, suc, ◌≤◌, Bool, true, false, List, [], ◌∷◌, length, Option, Some, None, refl, ◌∙◌, subst, arith}
 use Rattle.std.proofs.lemmas.List.{length-append, length-set}
-use Rattle.std.specs.Prelude.{if◌then◌else◌, Result, Ok, Err}
+use Rattle.std.specs.Prelude.{if◌then◌else◌, slice_get, ◌==◌, Result, Ok, Err}
 use Rattle.hw_base.specs.Bits.{minus_one}
 use Rattle.hw_base.specs.declared.accesses.Access.{Access}
 use Rattle.hw_base.specs.declared.endings.Full.{Full}
@@ -15,7 +15,11 @@ use Rattle.tbi_memory.specs.declared.mem_fault.MemFault.{MemFault}
 use Rattle.tbi_memory.specs.declared.mem_fault.MemFault.TheVariants.{Unmapped, ReadOnly}
 use Rattle.tag_alloc.specs.declared.blocks.Block.{Block}
 use Rattle.tag_alloc.specs.declared.blocks.FreeMismatch.{FreeMismatch}
-use Rattle.tag_alloc.specs.HeapBlocks.{HeapState, place_of_new, heap_full}
+use Rattle.tag_alloc.specs.HeapBlocks.{HeapState, place_of_new, heap_full, block_at, freed_block}
+use Rattle.tag_alloc.proofs.HeapBlockLemmas.{with_block-stays}
+use Rattle.tag_alloc.proofs.LivingSizeLemmas.{table-allocated, table-after_death}
+use Rattle.hw_base.specs.TaggedAddress.{address_of}
+use Rattle.std.specs.List.{find}
 use Rattle.tag_alloc.specs.HeapSteps.{AfterBirth, new_block, after_birth, allocated, after_death}
 use Rattle.dbg_sites.specs.ChainTable.{ChainEntry, entry_from, numbered, pushed}
 use Rattle.dbg_sites.proofs.ChainLemmas.{pushed-within, pushed-table}
@@ -61,19 +65,51 @@ pushed-grows table rest site = numbered-more table site rest (entry_from table s
 
 -- ---- blocks
 
+-- a block is in the table of living blocks
+abbrev pub IsLiving : HeapState → Block → Type 0
+IsLiving heap block = (i : ℕ) × (slice_get heap.living i ≡ Some block)
+
+find-in : {A : Type 0} (p : A → Bool) (x y : A) (ys : List A) (t : Bool) → (if t then Some y else find p ys) ≡ Some x → ((i : ℕ) × (slice_get ys i ≡ Some x) → (i : ℕ) × (slice_get (y ∷ ys) i ≡ Some x)) → (find p ys ≡ Some x → (i : ℕ) × (slice_get ys i ≡ Some x)) → (i : ℕ) × (slice_get (y ∷ ys) i ≡ Some x)
+find-in p x y ys true h later rest = (0, h)
+find-in p x y ys false h later rest = later (rest h)
+
+find-get : {A : Type 0} (p : A → Bool) (xs : List A) (x : A) → find p xs ≡ Some x → (i : ℕ) × (slice_get xs i ≡ Some x)
+find-get p [] x h = absurd (cc)
+find-get p (y ∷ ys) x h = find-in p x y ys (p y) h (λ found. (suc found.0, found.1)) (find-get p ys x)
+
+freed-if : (t : Bool) (o : Option Block) (block : Block) → (if t then None else o) ≡ Some block → o ≡ Some block
+freed-if true o block h = absurd (cc)
+freed-if false o block h = h
+
+-- the block that a free ends is living
+pub freed-living : (heap : HeapState) (number : ℕ) (block : Block) → freed_block heap number ≡ Some block → IsLiving heap block
+freed-living heap number block h =
+    find-get (λ (b : Block). b.at == address_of number) heap.living block (freed-if (number == 0) (block_at heap (address_of number)) block h)
+
 born_on : Option ℕ → HeapState → AddressSpace → (word size birth born : ℕ) → Result AfterBirth Full
 born_on o heap space word size birth born = elim o [ None ↦ Err (heap_full heap size) | Some place ↦ Ok (after_birth heap space (new_block word place size birth born)) ]
 
-freed-born_on : (o : Option ℕ) (heap : HeapState) (space : AddressSpace) (word size birth born : ℕ) (after : AfterBirth) → born_on o heap space word size birth born ≡ Ok after → length after.heap.freed ≡ length heap.freed
-unfolding born_on after_birth
-freed-born_on None heap space word size birth born after h = absurd (cc)
-freed-born_on (Some place) heap space word size birth born after h =
-    let same : after ≡ after_birth heap space (new_block word place size birth born) = cc in
-    ap (λ (a : AfterBirth). length a.heap.freed) same
+-- after a birth there are as many rings, and the living blocks still live
+pub record AfterBirthHas (heap : HeapState) (after : AfterBirth) : Type 0 where
+  pub rings : length after.heap.freed ≡ length heap.freed
+  pub living : (block : Block) → IsLiving heap block → IsLiving after.heap block
 
-freed-allocated : (heap : HeapState) (space : AddressSpace) (word size birth born : ℕ) (after : AfterBirth) → allocated heap space word size birth born ≡ Ok after → length after.heap.freed ≡ length heap.freed
+born-born_on : (o : Option ℕ) (heap : HeapState) (space : AddressSpace) (word size birth born : ℕ) (after : AfterBirth) → born_on o heap space word size birth born ≡ Ok after → AfterBirthHas heap after
+unfolding born_on after_birth
+born-born_on None heap space word size birth born after h = absurd (cc)
+born-born_on (Some place) heap space word size birth born after h =
+    let new = new_block word place size birth born in
+    let same : after_birth heap space new ≡ after = cc in
+    subst (AfterBirthHas heap) same
+    (record { rings = refl; living = λ (block : Block) (there : IsLiving heap block). with_block-stays new block heap.living there.0 there.1 })
+
+born-allocated : (heap : HeapState) (space : AddressSpace) (word size birth born : ℕ) (after : AfterBirth) → allocated heap space word size birth born ≡ Ok after → AfterBirthHas heap after
 unfolding allocated born_on
-freed-allocated heap space word size birth born after h = freed-born_on (place_of_new heap size) heap space word size birth born after h
+born-allocated heap space word size birth born after h = born-born_on (place_of_new heap size) heap space word size birth born after h
+
+rings-death : (heap : HeapState) (space : AddressSpace) (word task died : ℕ) (block : Block) → length (after_death heap space word task died block).heap.freed ≡ length heap.freed
+unfolding after_death
+rings-death heap space word task died block = length-set heap.freed task _
 
 module _ (tasks least : ℕ) where
   pub goes-kept : (s : MachineSeen) (bytes : List ℕ) → IsTogether tasks least s → KeepsTables tasks least (Goes (advanced s) bytes)
@@ -122,15 +158,15 @@ module _ (tasks least : ℕ) where
       (λ (memory : AddressSpace). h)
   exchange-kept s site at to bytes old false h = h
 
-  pub birth-kept : (s : MachineSeen) (go : MachineSeen → ℕ → MachineOutcome) (word size birth chain : ℕ) → ((born : AfterBirth) → IsTogether tasks least (with_birth s born) → KeepsTables tasks least (go (with_birth s born) born.number)) → IsTogether tasks least s → KeepsTables tasks least (on_birth s go (allocated s.shared.heap s.shared.memory word size birth chain))
+  pub birth-kept : (s : MachineSeen) (go : MachineSeen → ℕ → MachineOutcome) (word size birth chain : ℕ) → ((born : AfterBirth) → AfterBirthHas s.shared.heap born → IsTogether tasks least (with_birth s born) → KeepsTables tasks least (go (with_birth s born) born.number)) → IsTogether tasks least s → KeepsTables tasks least (on_birth s go (allocated s.shared.heap s.shared.memory word size birth chain))
   birth-kept s go word size birth chain h together = by_result (allocated s.shared.heap s.shared.memory word size birth chain) refl
     where
       by_result : (r : Result AfterBirth Full) → allocated s.shared.heap s.shared.memory word size birth chain ≡ r → KeepsTables tasks least (on_birth s go r)
       by_result (Err full) e = tt
       by_result (Ok born) e =
-          let freed = freed-allocated s.shared.heap s.shared.memory word size birth chain born e in
+          let has = born-allocated s.shared.heap s.shared.memory word size birth chain born e in
           let fit = together.0 in
-          h born (record { rings = freed ∙ fit.rings; stacks_of = fit.stacks_of; follow = fit.follow; table = fit.table }, together.1, together.2)
+          h born has (record { rings = has.rings ∙ fit.rings; blocks = table-allocated s.shared.heap s.shared.memory word size birth chain born fit.blocks e; stacks_of = fit.stacks_of; follow = fit.follow; table = fit.table }, together.1, together.2)
 
   -- the chain of a site is in the table
   pub known-kept : (s : MachineSeen) (site : Site) → IsTogether tasks least s → IsTogether tasks least (chain_known s site)
@@ -138,7 +174,7 @@ module _ (tasks least : ℕ) where
       let fit = h.0 in
       let low = h.1 in
       let grown = pushed-grows s.shared.chains s.frame.chain site in (
-        record { rings = fit.rings; stacks_of = fit.stacks_of; follow = fit.follow; table = pushed-table s.shared.chains s.frame.chain site fit.table h.2.0 },
+        record { rings = fit.rings; blocks = fit.blocks; stacks_of = fit.stacks_of; follow = fit.follow; table = pushed-table s.shared.chains s.frame.chain site fit.table h.2.0 },
         omega (arith, low, grown),
         numbered-grows s.shared.chains (pushed s.shared.chains s.frame.chain site).table (s.frame ∷ s.callers) grown h.2,
       )
@@ -147,12 +183,12 @@ module _ (tasks least : ℕ) where
   chain-within s site = pushed-within s.shared.chains s.frame.chain site
 
   -- a block is freed
-  pub death-kept : (setting : MachineSetting) (s : MachineSeen) (chain : ℕ) (block : Block) → IsTogether tasks least s → IsTogether tasks least (block_freed setting s chain block)
-  unfolding after_death
-  death-kept setting s chain block h =
+  pub death-kept : (setting : MachineSetting) (s : MachineSeen) (chain : ℕ) (block : Block) → IsLiving s.shared.heap block → IsTogether tasks least s → IsTogether tasks least (block_freed setting s chain block)
+  death-kept setting s chain block living h =
       let fit = h.0 in (
         record {
-          rings = length-set s.shared.heap.freed s.task _ ∙ fit.rings;
+          rings = rings-death s.shared.heap s.shared.memory (setting.word s.shared.drawn) s.task chain block ∙ fit.rings;
+          blocks = table-after_death s.shared.heap s.shared.memory (setting.word s.shared.drawn) s.task chain living.0 block fit.blocks living.1;
           stacks_of = fit.stacks_of;
           follow = fit.follow;
           table = fit.table;
@@ -165,9 +201,9 @@ module _ (tasks least : ℕ) where
   free-kept s site number go None h = h
   free-kept s site number go (Some found) h = tt
 
-  pub freed-kept : (setting : MachineSetting) (s : MachineSeen) (site : Site) (o : Option Block) → IsTogether tasks least s → KeepsTables tasks least (freed_if setting s site o)
-  freed-kept setting s site None h = goes-kept s [] h
-  freed-kept setting s site (Some block) h = death-kept setting (chain_known s site) (chain_at s site) block (known-kept s site h)
+  pub freed-kept : (setting : MachineSetting) (s : MachineSeen) (site : Site) (o : Option Block) → ((block : Block) → o ≡ Some block → IsLiving s.shared.heap block) → IsTogether tasks least s → KeepsTables tasks least (freed_if setting s site o)
+  freed-kept setting s site None living h = goes-kept s [] h
+  freed-kept setting s site (Some block) living h = death-kept setting (chain_known s site) (chain_at s site) block (living block refl) (known-kept s site h)
 
   pub string-kept : (s : MachineSeen) (site : Site) (start : ℕ) (go : List ℕ → MachineOutcome) (r : Result (List ℕ) MemFault) → ((bytes : List ℕ) → KeepsTables tasks least (go bytes)) → KeepsTables tasks least (on_string s site start go r)
   string-kept s site start go (Ok bytes) h = h bytes

@@ -14,6 +14,7 @@ use Rattle.hw_shadow.specs.declared.mismatch.Mismatch.{Mismatch}
 use Rattle.hw_tags.specs.TaskRuns.{Goes, Starts}
 use Rattle.dbg_sites.specs.ChainTable.{ChainEntry}
 use Rattle.tag_alloc.specs.declared.blocks.FreeMismatch.{FreeMismatch}
+use Rattle.tag_alloc.proofs.LivingSizeLemmas.{table-with_task}
 use Rattle.tag_alloc.specs.HeapBlocks.{free_mismatch}
 use Rattle.tbi_memory.specs.AddressSpace.{AddressSpace, check, write_fault}
 use Rattle.stack_tags.specs.Frames.{LivingFrame, StacksState, frames_of}
@@ -86,6 +87,7 @@ variables-together tasks shared task func word sizes birth born (Err full) e fit
 variables-together tasks shared task func word sizes birth born (Ok after) e fit = (
   record {
     rings = fit.rings;
+    blocks = fit.blocks;
     stacks_of = entered-length shared.stacks shared.memory task func word sizes birth born after e ∙ fit.stacks_of;
     follow = stacks-entered shared.stacks shared.memory task func word sizes birth born after fit.follow e;
     table = fit.table;
@@ -111,7 +113,7 @@ task-together tasks shared fit =
     let stacks = length-append shared.stacks.tasks (record { living = []; ended = [] } ∷ []) in
     let r = fit.rings in
     let q = fit.stacks_of in
-    record { rings = omega (arith, rings, r); stacks_of = omega (arith, stacks, q); follow = stacks-with_task shared.stacks fit.follow; table = fit.table }
+    record { rings = omega (arith, rings, r); blocks = table-with_task shared.heap fit.blocks; stacks_of = omega (arith, stacks, q); follow = stacks-with_task shared.stacks fit.follow; table = fit.table }
 
 module _ (tasks least : ℕ) where
   -- ---- calls and returns
@@ -211,6 +213,7 @@ module _ (tasks least : ℕ) where
       let fit = together.0 in (
         record {
           rings = fit.rings;
+          blocks = fit.blocks;
           stacks_of = left-length s.shared.stacks s.shared.memory s.task (chain_at s site) ∙ fit.stacks_of;
           follow = stacks-left s.shared.stacks s.shared.memory s.task (chain_at s site) fit.follow;
           table = fit.table;

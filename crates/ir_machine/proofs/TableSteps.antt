@@ -1,5 +1,5 @@
 -- Each step but those of branches, calls and starts keeps the tables together.
-use Rattle.std.proofs.Common.{ℕ, ◌+◌, ◌%◌, min, List, [], ◌∷◌, ◌++◌, length, Option, Some, None}
+use Rattle.std.proofs.Common.{◌≡◌, refl, ℕ, ◌+◌, ◌%◌, min, List, [], ◌∷◌, ◌++◌, length, Option, Some, None}
 use Rattle.std.specs.Prelude.{slice_get, ◌==◌, if◌then◌else◌}
 use Rattle.hw_base.specs.Bits.{minus_one}
 use Rattle.hw_base.specs.Bytes.{le_bytes, le_number, byte_order, order_bits}
@@ -36,7 +36,7 @@ use Rattle.ir_machine.specs.ByteFunctions.{copy_step, set_step, memcmp_step}
 use Rattle.ir_machine.specs.MemorySteps.{number_of_bytes, exchange, load_step, store_step, rmw_step, cmpxchg_step}
 use Rattle.ir_machine.specs.TaskFunctions.{word_written, join_step, mutex_init_step, mutex_lock_step, mutex_unlock_step}
 use Rattle.ir_machine.specs.TextFunctions.{on_input, strlen_step, puts_step, putchar_step, getchar_step, exit_step, abort_step}
-use Rattle.ir_machine.proofs.KeptTables.{KeepsTables, IsTogether, known-kept, death-kept, gives_to-kept, prints-kept, if-kept, bytes-kept, writable-kept, memory-kept, arithmetic-kept, exchange-kept, birth-kept, free-kept, freed-kept, string-kept, input-kept, joined-kept}
+use Rattle.ir_machine.proofs.KeptTables.{KeepsTables, IsTogether, AfterBirthHas, IsLiving, freed-living, known-kept, death-kept, gives_to-kept, prints-kept, if-kept, bytes-kept, writable-kept, memory-kept, arithmetic-kept, exchange-kept, birth-kept, free-kept, freed-kept, string-kept, input-kept, joined-kept}
 
 module _ (tasks least : ℕ) where
   -- ---- numbers and addresses
@@ -130,35 +130,35 @@ module _ (tasks least : ℕ) where
   malloc-kept setting s site to size h =
       let known = chain_known s site in
       birth-kept tasks least known (λ (after : MachineSeen) (number : ℕ). gives_to after to number) (setting.word s.shared.drawn) size s.shared.births (chain_at s site)
-      (λ (born : AfterBirth) (together : IsTogether tasks least (with_birth known born)). gives_to-kept tasks least (with_birth known born) to born.number together)
+      (λ (born : AfterBirth) (has : AfterBirthHas s.shared.heap born) (together : IsTogether tasks least (with_birth known born)). gives_to-kept tasks least (with_birth known born) to born.number together)
       (known-kept tasks least s site h)
 
   pub free_step-kept : (setting : MachineSetting) (s : MachineSeen) (site : Site) (number : ℕ) → IsTogether tasks least s → KeepsTables tasks least (free_step setting s site number)
   unfolding free_step
   free_step-kept setting s site number h =
       free-kept tasks least s site number (freed_if setting s site (freed_block s.shared.heap number)) (free_mismatch s.shared.heap number)
-      (freed-kept tasks least setting s site (freed_block s.shared.heap number) h)
+      (freed-kept tasks least setting s site (freed_block s.shared.heap number) (freed-living s.shared.heap number) h)
 
-  moved-kept : (setting : MachineSetting) (site : Site) (to : Option ℕ) (number size chain : ℕ) (old : Block) (s : MachineSeen) (new : ℕ) → IsTogether tasks least s → KeepsTables tasks least (moved_block setting site to number size chain old s new)
-  moved-kept setting site to number size chain old s new h =
+  moved-kept : (setting : MachineSetting) (site : Site) (to : Option ℕ) (number size chain : ℕ) (old : Block) (s : MachineSeen) (new : ℕ) → IsLiving s.shared.heap old → IsTogether tasks least s → KeepsTables tasks least (moved_block setting site to number size chain old s new)
+  moved-kept setting site to number size chain old s new living h =
       read-kept s site Read (min old.size size) number (λ (bytes : List ℕ). with_write s site new bytes (λ (after : MachineSeen). gives_to (block_freed setting after chain old) to new))
       (λ (bytes : List ℕ).
       write-kept s site new bytes (λ (after : MachineSeen). gives_to (block_freed setting after chain old) to new)
-      (λ (memory : AddressSpace). gives_to-kept tasks least (block_freed setting (with_memory s memory) chain old) to new (death-kept tasks least setting (with_memory s memory) chain old h)))
+      (λ (memory : AddressSpace). gives_to-kept tasks least (block_freed setting (with_memory s memory) chain old) to new (death-kept tasks least setting (with_memory s memory) chain old living h)))
 
-  reallocated-kept : (setting : MachineSetting) (s : MachineSeen) (site : Site) (to : Option ℕ) (number size : ℕ) (o : Option Block) → IsTogether tasks least s → KeepsTables tasks least (reallocated setting s site to number size o)
-  reallocated-kept setting s site to number size None h = malloc-kept setting s site to size h
-  reallocated-kept setting s site to number size (Some old) h =
+  reallocated-kept : (setting : MachineSetting) (s : MachineSeen) (site : Site) (to : Option ℕ) (number size : ℕ) (o : Option Block) → ((block : Block) → o ≡ Some block → IsLiving s.shared.heap block) → IsTogether tasks least s → KeepsTables tasks least (reallocated setting s site to number size o)
+  reallocated-kept setting s site to number size None living h = malloc-kept setting s site to size h
+  reallocated-kept setting s site to number size (Some old) living h =
       let known = chain_known s site in
       birth-kept tasks least known (moved_block setting site to number size (chain_at s site) old) (setting.word s.shared.drawn) size s.shared.births (chain_at s site)
-      (λ (born : AfterBirth) (together : IsTogether tasks least (with_birth known born)). moved-kept setting site to number size (chain_at s site) old (with_birth known born) born.number together)
+      (λ (born : AfterBirth) (has : AfterBirthHas s.shared.heap born) (together : IsTogether tasks least (with_birth known born)). moved-kept setting site to number size (chain_at s site) old (with_birth known born) born.number (has.living old (living old refl)) together)
       (known-kept tasks least s site h)
 
   pub realloc-kept : (setting : MachineSetting) (s : MachineSeen) (site : Site) (to : Option ℕ) (number size : ℕ) → IsTogether tasks least s → KeepsTables tasks least (realloc_step setting s site to number size)
   unfolding realloc_step
   realloc-kept setting s site to number size h =
       free-kept tasks least s site number (reallocated setting s site to number size (freed_block s.shared.heap number)) (free_mismatch s.shared.heap number)
-      (reallocated-kept setting s site to number size (freed_block s.shared.heap number) h)
+      (reallocated-kept setting s site to number size (freed_block s.shared.heap number) (freed-living s.shared.heap number) h)
 
   -- ---- bytes
 

@@ -101,6 +101,7 @@ start-fit : (setting : MachineSetting) → FitTogether (shared_at_start setting)
 start-fit setting =
     record {
       rings = refl;
+      blocks = record { apart = tt; sum = refl };
       stacks_of = refl;
       follow = stacks-with_task (stacks.stacks_at_start setting.places setting.ring) (λ (task : ℕ). tt);
       table = empty_table;

@@ -4,7 +4,7 @@
 use Rattle.std.specs.Prelude.{◌≡◌, ℕ, ◌≤◌, Bool, true, false, List, [], ◌∷◌, length, slice_get, Some}
 use Rattle.dbg_sites.specs.ChainTable.{ChainEntry, IsChainTable}
 use Rattle.stack_tags.specs.Frames.{StacksState, AreStacks}
-use Rattle.tag_alloc.specs.HeapBlocks.{HeapState}
+use Rattle.tag_alloc.specs.HeapBlocks.{HeapState, IsTableOfBlocks}
 use Rattle.ir_core.specs.declared.operations.Op.{Op}
 use Rattle.ir_core.specs.declared.operations.Op.TheVariants as source
 use Rattle.ir_core.specs.declared.ir_module.Function.{Function}
@@ -51,9 +51,11 @@ pub record HasPlaces (m : Module) (w : MachineWorld) : Type 0 where
 
 -- ---- the tables
 
--- there are so many rings of freed blocks and so many stacks, whose frames follow each other, and the chains are a table
+-- there are so many rings of freed blocks and so many stacks, whose frames follow each other; the living blocks and the chains
+-- are tables
 pub record FitTogether (heap : HeapState) (stacks : StacksState) (chains : List ChainEntry) (tasks : ℕ) : Type 0 where
   pub rings : length heap.freed ≡ tasks
+  pub blocks : IsTableOfBlocks heap
   pub stacks_of : length stacks.tasks ≡ tasks
   pub follow : AreStacks stacks
   pub table : IsChainTable chains

@@ -29,8 +29,9 @@ pub fn frames_are_at_their_places()
         → world_step (step_in (setting_of program options input)) [] turns world ≡ Next next report → HasPlaces program next }
 {}
 
-/// In each state of a run there are as many rings of freed blocks and as many stacks as tasks, the chains are a table, and it
-/// has the chain of each frame: so at the start, and after each step.
+/// In each state of a run there are as many rings of freed blocks and as many stacks as tasks, the frames of each stack follow
+/// each other, the living blocks and the chains are tables, and the chain of each frame is in its table: so at the start, and
+/// after each step.
 pub fn tables_fit_together()
     ensures start { (setting : MachineSetting) (first : MachineWorld) (report : MachineReport)
         → machine_start setting ≡ Next first report → HasTables first }
