@@ -8,3 +8,7 @@ pub mod CheckedSteps
 pub mod OwnSteps
 pub mod WholeSteps
 pub mod WorldPlaces
+pub mod KeptTables
+pub mod TableSteps
+pub mod TableCalls
+pub mod WorldTables

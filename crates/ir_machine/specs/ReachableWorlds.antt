@@ -1,6 +1,10 @@
--- Where the frames of a run are: at instructions of their functions, the callers at calls, and the first task has a frame.
--- Each state of a run of a module that can be run is of this form, so that no run is stuck.
-use Rattle.std.specs.Prelude.{◌≡◌, ℕ, Bool, true, false, List, [], ◌∷◌, slice_get, Some}
+-- What holds in each state of a run. Where the frames are: at instructions of their functions, the callers at calls, and the
+-- first task has a frame; so no run of a module that can be run is stuck. And how the tables fit together: as many rings of
+-- freed blocks and as many stacks as tasks, and a table of chains that has the chain of each frame.
+use Rattle.std.specs.Prelude.{◌≡◌, ℕ, ◌≤◌, Bool, true, false, List, [], ◌∷◌, length, slice_get, Some}
+use Rattle.dbg_sites.specs.ChainTable.{ChainEntry, IsChainTable}
+use Rattle.stack_tags.specs.Frames.{StacksState, AreStacks}
+use Rattle.tag_alloc.specs.HeapBlocks.{HeapState, IsTableOfBlocks}
 use Rattle.ir_core.specs.declared.operations.Op.{Op}
 use Rattle.ir_core.specs.declared.operations.Op.TheVariants as source
 use Rattle.ir_core.specs.declared.ir_module.Function.{Function}
@@ -44,3 +48,24 @@ AreFrames m (frame ∷ callers) = IsAtInstruction m frame × AreCallers m caller
 pub record HasPlaces (m : Module) (w : MachineWorld) : Type 0 where
   pub frames : (k : ℕ) (frames : List Frame) → slice_get w.tasks k ≡ Some frames → AreFrames m frames
   pub first : (frame : Frame) × (callers : List Frame) × (slice_get w.tasks 0 ≡ Some (frame ∷ callers))
+
+-- ---- the tables
+
+-- there are so many rings of freed blocks and so many stacks, whose frames follow each other; the living blocks and the chains
+-- are tables
+pub record FitTogether (heap : HeapState) (stacks : StacksState) (chains : List ChainEntry) (tasks : ℕ) : Type 0 where
+  pub rings : length heap.freed ≡ tasks
+  pub blocks : IsTableOfBlocks heap
+  pub stacks_of : length stacks.tasks ≡ tasks
+  pub follow : AreStacks stacks
+  pub table : IsChainTable chains
+
+-- the table of chains has the chain of each frame
+abbrev pub AreNumbered : List ChainEntry → List Frame → Type 0
+AreNumbered chains [] = Unit {0}
+AreNumbered chains (frame ∷ frames) = (frame.chain ≤ length chains) × AreNumbered chains frames
+
+-- a state between two steps
+pub record HasTables (w : MachineWorld) : Type 0 where
+  pub fit : FitTogether w.shared.heap w.shared.stacks w.shared.chains (length w.tasks)
+  pub numbered : (k : ℕ) (frames : List Frame) → slice_get w.tasks k ≡ Some frames → AreNumbered w.shared.chains frames

@@ -3,7 +3,7 @@ ghost use Rattle.hw_tags.specs.TaskRuns.{Ended, IsStuck, Next, resumed, world_st
 ghost use Rattle.ir_core.specs.declared.ir_module.Module.{Module};
 ghost use Rattle.ir_core.specs.Runnable.{IsRunnable};
 ghost use Rattle.mi_code.specs.Instrumentation.{instrumented};
-ghost use Rattle.ir_machine.specs.ReachableWorlds.{HasPlaces};
+ghost use Rattle.ir_machine.specs.ReachableWorlds.{HasPlaces, HasTables};
 ghost use Rattle.ir_machine.specs.Runs.{machine_run, run_of, setting_of, step_in};
 ghost use Rattle.ir_machine.specs.Start.{machine_start};
 ghost use Rattle.ir_machine.specs.State.{MachineSetting, MachineWorld, MachineReport, MachineEnding};
@@ -27,6 +27,16 @@ pub fn frames_are_at_their_places()
     ensures step { (program : Module) (options : Options) (input : List ℕ) (turns : ℕ → ℕ) (world next : MachineWorld) (report : MachineReport)
         → IsRunnable program → HasPlaces program world
         → world_step (step_in (setting_of program options input)) [] turns world ≡ Next next report → HasPlaces program next }
+{}
+
+/// In each state of a run there are as many rings of freed blocks and as many stacks as tasks, the frames of each stack follow
+/// each other, the living blocks and the chains are tables, and the chain of each frame is in its table: so at the start, and
+/// after each step.
+pub fn tables_fit_together()
+    ensures start { (setting : MachineSetting) (first : MachineWorld) (report : MachineReport)
+        → machine_start setting ≡ Next first report → HasTables first }
+    ensures step { (setting : MachineSetting) (turns : ℕ → ℕ) (world next : MachineWorld) (report : MachineReport)
+        → HasTables world → world_step (step_in setting) [] turns world ≡ Next next report → HasTables next }
 {}
 
 /// A run of a module that can be run is never stuck: it has an instruction at each place that it comes to, and the length of a

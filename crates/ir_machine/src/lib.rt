@@ -16,4 +16,4 @@ pub use further_examples::{
     blocks_are_checked, blocks_are_zero_and_grow, constants_and_strings, input_and_numbers,
     tasks_wait_and_end,
 };
-pub use laws::{a_run_is_never_stuck, frames_are_at_their_places, runs_go_on};
+pub use laws::{a_run_is_never_stuck, frames_are_at_their_places, runs_go_on, tables_fit_together};

@@ -11,8 +11,8 @@ mod mem_fault;
 pub use examples::{a_small_space, objects_in_memory, refused_accesses};
 pub use hw_shadow::Mismatch;
 pub use laws::{
-    a_write_changes_its_bytes_alone, all_is_zero_at_the_start, fresh_objects_stay_inside, nothing_is_unmapped,
-    what_is_written_is_read,
+    a_write_changes_its_bytes_alone, all_is_zero_at_the_start, fresh_objects_stay_inside,
+    nothing_is_unmapped, what_is_written_is_read,
 };
 pub use layout::Layout;
 pub use mem_fault::MemFault;
