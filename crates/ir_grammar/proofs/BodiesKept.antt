@@ -617,7 +617,7 @@ instruction_kept entry = (
   0,
   4,
   (λ v st from good sound. kept_optional (token_in v.0) ((v.1).0).token (((v.1).1).0) (((v.1).1).1) st
-  (size_of st + (items_in shared reading (option token) v.0 + (0 + (items_in shared reading (option (base operation)) (((v.1).1).0) + length (((v.1).1).1)))) + 0) good (((sound.1).1).0) (omega arith)),
+      (size_of st + (items_in shared reading (option token) v.0 + (0 + (items_in shared reading (option (base operation)) (((v.1).1).0) + length (((v.1).1).1)))) + 0) good (((sound.1).1).0) (omega arith)),
   (0, 4, (omega arith, fewer shared reading token result_name 8 1 (omega arith) result_kept), body_kept entry, omega arith),
   omega arith,
 )
@@ -672,10 +672,10 @@ block_kept entry = (
   1,
   4,
   (λ v st from good sound.
-    let more : length (kept_ones (v.1).0 ++ (v.1).1 ∷ []) ≡ length (kept_ones (v.1).0) + 1 = length-append (kept_ones (v.1).0) ((v.1).1 ∷ []) in
-    let few : length (kept_ones (v.1).0) ≤ length (v.1).0 = few_ones (v.1).0 in
-    kept_block (token_in v.0) (kept_ones (v.1).0 ++ (v.1).1 ∷ []) st (size_of st + (items_in shared reading (option token) v.0 + (length (v.1).0 + 0)) + 1) good
-    (sound_ones (v.1).0 (v.1).1 st (sound.1).0 (sound.1).1) (omega (arith, more)) (omega (arith, more, few))),
+      let more : length (kept_ones (v.1).0 ++ (v.1).1 ∷ []) ≡ length (kept_ones (v.1).0) + 1 = length-append (kept_ones (v.1).0) ((v.1).1 ∷ []) in
+      let few : length (kept_ones (v.1).0) ≤ length (v.1).0 = few_ones (v.1).0 in
+      kept_block (token_in v.0) (kept_ones (v.1).0 ++ (v.1).1 ∷ []) st (size_of st + (items_in shared reading (option token) v.0 + (length (v.1).0 + 0)) + 1) good
+      (sound_ones (v.1).0 (v.1).1 st (sound.1).0 (sound.1).1) (omega (arith, more)) (omega (arith, more, few))),
   (0, 4, (omega arith, omega arith), (0, 4, parts_kept entry, terminator_kept, omega arith), omega arith),
   omega arith,
 )

@@ -4,6 +4,7 @@ pub mod BodiesWellFormed
 pub mod BodySteps
 pub mod Complete
 pub mod ConstantLists
+pub mod Deeper
 pub mod First
 pub mod Grown
 pub mod Kept

@@ -16,7 +16,6 @@ use Rattle.ir_grammar.specs.declared.spelled_bodies.SpelledBlock.{SpelledBlock}
 use Rattle.ir_grammar.specs.BodyStore.{BodyStore}
 use Rattle.ir_grammar.specs.Spelled.{Store, add_constant}
 
-
 -- the store with these lists of bodies
 abbrev pub with_bodies : Store → BodyStore → Store
 with_bodies store bodies = record store { bodies = bodies }

@@ -572,7 +572,8 @@ fn operand_follows(tokens: &Tokens, behind: &[Token]) -> bool
     match behind {
         [] => false,
         [next, rest @ ..] => {
-            let is_register = is_token(TokenKind::Local, next.kind) && !equals_follows(tokens, rest);
+            let is_register = is_token(TokenKind::Local, next.kind)
+                && !equals_follows(tokens, rest);
             is_register
                 || word_of(tokens, next).is(Kind::GetElementPtr) && parens_follow(tokens, rest)
         }
@@ -595,10 +596,18 @@ fn kind_before(tokens: &Tokens, behind: &[Token], kind: Kind) -> Kind
     ensures { result ≡ kind_before tokens.now.source behind.now kind }
 {
     if kind.is(Kind::Comma) {
-        return if meta_name_follows(behind) { Kind::MetaComma } else { kind };
+        return if meta_name_follows(behind) {
+            Kind::MetaComma
+        } else {
+            kind
+        };
     }
     if kind.is(Kind::Void) {
-        return if operand_follows(tokens, behind) { Kind::VoidBeforeOperand } else { kind };
+        return if operand_follows(tokens, behind) {
+            Kind::VoidBeforeOperand
+        } else {
+            kind
+        };
     }
     kind
 }

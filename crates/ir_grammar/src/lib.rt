@@ -33,8 +33,8 @@ pub use spelled::{
     TypedIndex,
 };
 pub use spelled_bodies::{
-    SpelledAttachment, SpelledBlock, SpelledCase, SpelledIncoming, SpelledInstruction, SpelledOperand,
-    SpelledOperation, TypedOperand,
+    SpelledAttachment, SpelledBlock, SpelledCase, SpelledIncoming, SpelledInstruction,
+    SpelledOperand, SpelledOperation, TypedOperand,
 };
 pub use terminal::{Failure, Flaw, Terminal};
 pub use words::{

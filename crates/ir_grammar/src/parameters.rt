@@ -61,7 +61,11 @@ impl<'a> Reader<'a> {
 
     /// , type attr* local?
     #[tactic(auto, unfolding(crate::specs::Parameters::comma_parameter))]
-    fn comma_parameter(&mut self, context: Context, levels: u32) -> Result<SpelledParameter, Failure>
+    fn comma_parameter(
+        &mut self,
+        context: Context,
+        levels: u32,
+    ) -> Result<SpelledParameter, Failure>
         ensures { Reads (λ x. x) result self.old self.new levels (comma_parameter context) }
     {
         self.comma()?;
@@ -97,7 +101,11 @@ impl<'a> Reader<'a> {
 
     /// params: type attr* local? (, type attr* local?)* or nothing
     #[tactic(auto, unfolding(crate::specs::Parameters::parameters_rule))]
-    fn parameters_inside(&mut self, context: Context, levels: u32) -> Result<Vec<SpelledParameter>, Failure>
+    fn parameters_inside(
+        &mut self,
+        context: Context,
+        levels: u32,
+    ) -> Result<Vec<SpelledParameter>, Failure>
         ensures { Reads (λ v. v.items) result self.old self.new levels (parameters_rule context) }
     {
         if self.starts_parameter(context) {
@@ -110,7 +118,11 @@ impl<'a> Reader<'a> {
 
     /// ( params )
     #[tactic(auto, unfolding(crate::specs::Parameters::parameters), using(crate::proofs::Levels::inside_deeper))]
-    pub fn parameters(&mut self, context: Context, levels: u32) -> Result<Vec<SpelledParameter>, Failure>
+    pub fn parameters(
+        &mut self,
+        context: Context,
+        levels: u32,
+    ) -> Result<Vec<SpelledParameter>, Failure>
         ensures { Reads (λ v. v.items) result self.old self.new levels (parameters context) }
     {
         let at = self.rest.len();

@@ -6,12 +6,12 @@ ghost use Rattle.ir_grammar.specs.Grammar.{Gives, deeper};
 ghost use Rattle.ir_grammar.specs.BodyStore.{no_bodies};
 ghost use Rattle.ir_grammar.specs.Spelled.{store_of, bodies_of, added, with_rest, add_type, add_struct_type, add_constant, add_array, add_struct, add_address, add_item, add_declare};
 
-use crate::{
-    Failure, Flaw, Kind, SpelledAttachment, SpelledBlock, SpelledCase, SpelledConstant, SpelledIncoming,
-    SpelledInstruction, SpelledItem, SpelledParameter, SpelledType, Terminal, TypedConstant,
-    TypedIndex, TypedOperand,
-};
 use crate::words::commas;
+use crate::{
+    Failure, Flaw, Kind, SpelledAttachment, SpelledBlock, SpelledCase, SpelledConstant,
+    SpelledIncoming, SpelledInstruction, SpelledItem, SpelledParameter, SpelledType, Terminal,
+    TypedConstant, TypedIndex, TypedOperand,
+};
 use ir_core::{Fault, Limit, Token};
 use std::alloc::Global;
 

@@ -42,15 +42,23 @@ pub struct SpelledAttachment {
 #[derive(Clone, Copy, Debug, PartialEq, Eq)]
 pub enum SpelledOperation {
     /// The operator is the instruction's word.
-    Binary { a: TypedOperand, b: SpelledOperand },
+    Binary {
+        a: TypedOperand,
+        b: SpelledOperand,
+    },
     Icmp {
         predicate: Token,
         a: TypedOperand,
         b: SpelledOperand,
     },
     /// `trunc`, `zext` or `sext`, by the instruction's word.
-    Cast { a: TypedOperand, to: usize },
-    Freeze { a: TypedOperand },
+    Cast {
+        a: TypedOperand,
+        to: usize,
+    },
+    Freeze {
+        a: TypedOperand,
+    },
     Select {
         condition: SpelledOperand,
         a: TypedOperand,
@@ -116,7 +124,9 @@ pub enum SpelledOperation {
         ty: usize,
         value: Option<SpelledOperand>,
     },
-    Jump { block: Token },
+    Jump {
+        block: Token,
+    },
     Branch {
         condition: SpelledOperand,
         yes: Token,
