@@ -30,7 +30,7 @@ unfolding typed_constant
 typed_full = rw (type_full at.Plain) refl
 
 pub elements_more : (levels : ℕ) (front : List TypedConstant) (ts : List Terminal) (st : Store) (x : TypedConstant × List Terminal × Store)
-    → starts (k.Comma ∷ []) ts ≡ true → read levels comma_constant ts st ≡ Ok x
+    → starts (k.Comma ∷ k.MetaComma ∷ []) ts ≡ true → read levels comma_constant ts st ≡ Ok x
     → with_front front (read levels more_elements ts st) ≡ with_front (front ++ x.0 ∷ []) (read levels more_elements x.1 x.2)
 unfolding more_elements
 elements_more levels front ts st x h e =
@@ -38,13 +38,13 @@ elements_more levels front ts st x h e =
     ∙ front_more front x.0 (read levels more_elements x.1 x.2)
 
 pub elements_done : (levels : ℕ) (front : List TypedConstant) (ts : List Terminal) (st : Store)
-    → starts (k.Comma ∷ []) ts ≡ false → with_front front (read levels more_elements ts st) ≡ Ok (front, ts, st)
+    → starts (k.Comma ∷ k.MetaComma ∷ []) ts ≡ false → with_front front (read levels more_elements ts st) ≡ Ok (front, ts, st)
 unfolding more_elements
 elements_done levels front ts st h =
     ap (with_front front) (many_done shared production levels (base element) comma_constant ts st (unfold comma_constant in h)) ∙ front_done front ts st
 
 pub elements_failed : (levels : ℕ) (front : List TypedConstant) (ts : List Terminal) (st : Store) (e : Flaw)
-    → starts (k.Comma ∷ []) ts ≡ true → read levels comma_constant ts st ≡ Err e → with_front front (read levels more_elements ts st) ≡ Err e
+    → starts (k.Comma ∷ k.MetaComma ∷ []) ts ≡ true → read levels comma_constant ts st ≡ Err e → with_front front (read levels more_elements ts st) ≡ Err e
 unfolding more_elements
 elements_failed levels front ts st e h q =
     ap (with_front front) (many_failed shared production levels (base element) comma_constant ts st e (unfold comma_constant in h) q)
@@ -58,7 +58,7 @@ unfolding elements_rule
 elements_none levels ts st h = commas_none shared production levels (base element) typed_constant more_elements ts st typed_full h
 
 pub indices_more : (levels : ℕ) (front : List TypedIndex) (ts : List Terminal) (st : Store) (x : TypedIndex × List Terminal × Store)
-    → starts (k.Comma ∷ []) ts ≡ true → read levels comma_index ts st ≡ Ok x
+    → starts (k.Comma ∷ k.MetaComma ∷ []) ts ≡ true → read levels comma_index ts st ≡ Ok x
     → with_front front (read levels indices ts st) ≡ with_front (front ++ x.0 ∷ []) (read levels indices x.1 x.2)
 unfolding indices
 indices_more levels front ts st x h e =
@@ -66,13 +66,13 @@ indices_more levels front ts st x h e =
     ∙ front_more front x.0 (read levels indices x.1 x.2)
 
 pub indices_done : (levels : ℕ) (front : List TypedIndex) (ts : List Terminal) (st : Store)
-    → starts (k.Comma ∷ []) ts ≡ false → with_front front (read levels indices ts st) ≡ Ok (front, ts, st)
+    → starts (k.Comma ∷ k.MetaComma ∷ []) ts ≡ false → with_front front (read levels indices ts st) ≡ Ok (front, ts, st)
 unfolding indices
 indices_done levels front ts st h =
     ap (with_front front) (many_done shared production levels (base index) comma_index ts st (unfold comma_index in h)) ∙ front_done front ts st
 
 pub indices_failed : (levels : ℕ) (front : List TypedIndex) (ts : List Terminal) (st : Store) (e : Flaw)
-    → starts (k.Comma ∷ []) ts ≡ true → read levels comma_index ts st ≡ Err e → with_front front (read levels indices ts st) ≡ Err e
+    → starts (k.Comma ∷ k.MetaComma ∷ []) ts ≡ true → read levels comma_index ts st ≡ Err e → with_front front (read levels indices ts st) ≡ Err e
 unfolding indices
 indices_failed levels front ts st e h q =
     ap (with_front front) (many_failed shared production levels (base index) comma_index ts st e (unfold comma_index in h) q)

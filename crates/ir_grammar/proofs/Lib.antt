@@ -1,12 +1,17 @@
 pub mod AttributeLists
+pub mod BodiesKept
+pub mod BodiesWellFormed
+pub mod BodySteps
 pub mod Complete
 pub mod ConstantLists
+pub mod Deeper
 pub mod First
 pub mod Grown
 pub mod Kept
 pub mod KindSets
 pub mod Levels
 pub mod Loops
+pub mod NamesKept
 pub mod Numbers
 pub mod Outcomes
 pub mod ParameterLists
@@ -14,6 +19,7 @@ pub mod Ranged
 pub mod Resolved
 pub mod SharedKept
 pub mod SkippedRuns
+pub mod SoundBodies
 pub mod Sound
 pub mod SoundSteps
 pub mod Stuck

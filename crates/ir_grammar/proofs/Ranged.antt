@@ -11,13 +11,13 @@ use Rattle.ir_core.specs.declared.token.TokenKind.{TokenKind}
 use Rattle.ir_core.specs.declared.token.TokenKind.TheVariants as tokens
 use Rattle.ir_core.specs.declared.refusals.Place.{Place}
 use Rattle.ir_core.specs.Tokens.{bytes_of}
-use Rattle.ir_text.specs.Names.{is_used_list}
+use Rattle.ir_text.specs.Names.{is_used_list, is_debug_function}
 use Rattle.ir_text.specs.DataLayout.{is_layout_taken}
 use Rattle.ir_grammar.specs.declared.kind.Kind.{Kind}
 use Rattle.ir_grammar.specs.declared.kind.Kind.TheVariants as k
 use Rattle.ir_grammar.specs.Kinds.{is_same, is_among}
 use Rattle.ir_grammar.specs.Words.{counts}
-use Rattle.ir_grammar.specs.KindOf.{Table, kind_in, type_words, item_words, body_words, other_words, or_else, is_int_type, int_kind, number_of, other_word, word_kind, count_kind, digits_of, integer_kind, mark_table, mark_kind, token_kind, token_number, equals_follows, integer_follows, terminal_of, terminals_of, end_of_text, text_of}
+use Rattle.ir_grammar.specs.KindOf.{Table, kind_in, type_words, item_words, body_words, other_words, or_else, is_int_type, int_kind, number_of, other_word, word_kind, count_kind, digits_of, integer_kind, mark_table, mark_kind, token_kind, token_number, equals_follows, integer_follows, meta_name_follows, operand_follows, kind_before, global_kind, terminal_of, terminals_of, end_of_text, text_of}
 use Rattle.ir_grammar.specs.SoundStore.{IsInRange}
 use Rattle.ir_grammar.proofs.KindSets.{both_true, not_true}
 use Rattle.ir_grammar.proofs.Kept.{Each}
@@ -162,6 +162,27 @@ mark_without ks text integer w v l o h = go (kind_in mark_table text) refl h
     go None e h = last (bytes_eq text (codes "<")) integer h
     go (Some kind) e h = let p : is_among ks kind ≡ false = found_without ks mark_table text kind w e in let q : is_among ks kind ≡ true = h in cc
 
+global_without : (ks : List Kind) (text : List ℕ) → is_among ks k.UsedGlobal ≡ false → is_among ks k.DebugGlobal ≡ false → is_among ks k.Global ≡ false → is_among ks (global_kind text) ≡ true → ⊥
+global_without ks text u d g h = go (is_used_list text) (is_debug_function text) h
+  where
+    go : (a b : Bool) → is_among ks (cond a k.UsedGlobal (cond b k.DebugGlobal k.Global)) ≡ true → ⊥
+    go true b h = cc
+    go false true h = cc
+    go false false h = cc
+
+-- what a token's kind is before other tokens, it is by itself, if it is no kind of such a place
+before_among : (ks : List Kind) (source : List ℕ) (behind : List Token) (kind : Kind) → is_among ks k.MetaComma ≡ false → is_among ks k.VoidBeforeOperand ≡ false
+    → is_among ks (kind_before source behind kind) ≡ true → is_among ks kind ≡ true
+unfolding kind_before
+before_among ks source behind kind m v h = go (is_same kind k.Comma) (meta_name_follows behind) (is_same kind k.Void) (operand_follows source behind) h
+  where
+    go : (a b c d : Bool) → is_among ks (cond a (cond b k.MetaComma kind) (cond c (cond d k.VoidBeforeOperand kind) kind)) ≡ true → is_among ks kind ≡ true
+    go true true c d h = cc
+    go true false c d h = h
+    go false b true true h = cc
+    go false b true false h = h
+    go false b false d h = h
+
 width_of : (kind : TokenKind) (text : List ℕ) (equals integer : Bool) → is_among widths (token_kind kind text equals integer) ≡ true → (1 ≤ token_number kind text) × (token_number kind text ≤ 128)
 unfolding is_same
 width_of tokens.Word text e i h = other_width text (word_by widths text refl refl refl refl h)
@@ -170,7 +191,7 @@ width_of tokens.Integer text e i h = absurd (integer_no_width text h)
 width_of tokens.Float text e i h = cc
 width_of tokens.Local text true i h = cc
 width_of tokens.Local text false i h = cc
-width_of tokens.Global text e i h = absurd (neither_among widths k.UsedGlobal k.Global refl refl (is_used_list text) h)
+width_of tokens.Global text e i h = absurd (global_without widths text refl refl refl h)
 width_of tokens.MetaName text true i h = cc
 width_of tokens.MetaName text false i h = cc
 width_of tokens.MetaNumber text e i h = cc
@@ -189,7 +210,7 @@ count_of tokens.Integer text e i h = integer_below text h
 count_of tokens.Float text e i h = cc
 count_of tokens.Local text true i h = cc
 count_of tokens.Local text false i h = cc
-count_of tokens.Global text e i h = absurd (neither_among counts k.UsedGlobal k.Global refl refl (is_used_list text) h)
+count_of tokens.Global text e i h = absurd (global_without counts text refl refl refl h)
 count_of tokens.MetaName text true i h = cc
 count_of tokens.MetaName text false i h = cc
 count_of tokens.MetaNumber text e i h = cc
@@ -202,8 +223,8 @@ count_of tokens.Mark text e i h = absurd (mark_without counts text i refl refl r
 
 terminal_ranged : (source : List ℕ) (t : Token) (behind : List Token) → IsInRange (terminal_of source t behind)
 terminal_ranged source t behind = record {
-  width = width_of t.kind (bytes_of source t) (equals_follows source behind) (integer_follows behind);
-  count = count_of t.kind (bytes_of source t) (equals_follows source behind) (integer_follows behind);
+  width = λ h. width_of t.kind (bytes_of source t) (equals_follows source behind) (integer_follows behind) (before_among widths source behind _ (unfold is_same in refl) (unfold is_same in refl) h);
+  count = λ h. count_of t.kind (bytes_of source t) (equals_follows source behind) (integer_follows behind) (before_among counts source behind _ (unfold is_same in refl) (unfold is_same in refl) h);
 }
 
 end_ranged : (place : Place) → IsInRange (end_of_text place)
@@ -254,7 +275,7 @@ no_end tokens.Integer text e i h = let q = integer_no_end text in cc
 no_end tokens.Float text e i h = cc
 no_end tokens.Local text true i h = cc
 no_end tokens.Local text false i h = cc
-no_end tokens.Global text e i h = neither_among the_end k.UsedGlobal k.Global refl refl (is_used_list text) h
+no_end tokens.Global text e i h = global_without the_end text refl refl refl h
 no_end tokens.MetaName text true i h = cc
 no_end tokens.MetaName text false i h = cc
 no_end tokens.MetaNumber text e i h = cc
@@ -268,4 +289,7 @@ no_end tokens.Mark text e i h = mark_without the_end text i refl refl refl refl 
 -- no token of a text is its end
 pub text_has_no_end : (source : List ℕ) (ts : List Token) → Each (λ t. is_among (k.End ∷ []) t.kind ≡ true → ⊥) (terminals_of source ts)
 text_has_no_end source [] = tt
-text_has_no_end source (t ∷ ts) = (no_end t.kind (bytes_of source t) (equals_follows source ts) (integer_follows ts), text_has_no_end source ts)
+text_has_no_end source (t ∷ ts) = (
+  (λ h. no_end t.kind (bytes_of source t) (equals_follows source ts) (integer_follows ts) (before_among the_end source ts _ (unfold is_same in refl) (unfold is_same in refl) h)),
+  text_has_no_end source ts,
+)

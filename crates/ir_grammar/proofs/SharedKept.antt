@@ -9,14 +9,14 @@ use Rattle.ir_grammar.specs.declared.spelled.SpelledType.TheVariants as types
 use Rattle.ir_grammar.specs.declared.spelled.SpelledConstant.TheVariants as constants
 use Rattle.ir_grammar.specs.Kinds.{is_among}
 use Rattle.ir_grammar.specs.Rules.{Sort, nothing, token, base, pair, option, list, Value, one, ◌⨾◌, ◌∣◌, optional, many, act, the, just, gone, ◌▷◌, ◌◁◌, items_of}
-use Rattle.ir_grammar.specs.Words.{integers, locals, globals, texts, all_but_brackets}
+use Rattle.ir_grammar.specs.Words.{integers, locals, globals, texts, commas, voids, all_but_brackets}
 use Rattle.ir_grammar.specs.Names.{Base, Name, number, constant, element, index, parameter, array_inside, types_inside, elements_inside, address_inside, parameters_inside, any_inside, sort_of, shared, Production}
-use Rattle.ir_grammar.specs.Spelled.{Store, integer_of, add_type, add_constant}
+use Rattle.ir_grammar.specs.Spelled.{Store, integer_of, token_in, add_type, add_constant}
 use Rattle.ir_grammar.specs.Grammar.{production}
 use Rattle.ir_grammar.specs.Skipped.{in_parens, in_squares, in_braces, any_part, any_run}
-use Rattle.ir_grammar.specs.Types.{int_type, named_type, array_type, braced_types, struct_type, packed_type, other_type, type_rule, array_rule, comma_type, more_types, types_rule, ptr_word}
+use Rattle.ir_grammar.specs.Types.{int_type, named_type, array_type, braced_types, struct_type, packed_type, other_type, solid_type, type_rule, array_rule, comma_type, more_types, types_rule, ptr_word}
 use Rattle.ir_grammar.specs.Attributes.{alignment, word_attribute, align_attribute, convention_attribute, text_attribute, attribute, attributes}
-use Rattle.ir_grammar.specs.Parameters.{maybe_local, token_in, parameter_rule, comma_parameter, more_parameters, parameters_rule, parameters}
+use Rattle.ir_grammar.specs.Parameters.{behind_type, maybe_local, parameter_rule, comma_parameter, more_parameters, parameters_rule, parameters}
 use Rattle.ir_grammar.specs.Constants.{integer_value, name_value, word_value, flag, flags, address_parens, address_value, value_rule, squared_constants, braced_constants, array_constant, struct_constant, packed_constant, constant_rule, typed_constant, comma_constant, more_elements, elements_rule, comma_index, indices, address_base, address_rule}
 use Rattle.ir_grammar.specs.SoundStore.{IsInRange, IsSoundStore, IsSoundType, IsSoundConstant, counts_of, size_of}
 use Rattle.ir_grammar.proofs.Kept.{SoundValue, items_in, Kept, Keeps, fewer}
@@ -100,20 +100,15 @@ other_kept at.Global = tt
 other_kept at.GlobalTail = tt
 other_kept at.Parameter = tt
 
+pub solid_kept : (c : Context) → Spares (base number) (solid_type c) 2
+unfolding solid_type
+solid_kept c = (int_kept, (word_type (k.Ptr ∷ []) (λ t. types.Ptr) (λ t st from h. tt), (array_kept c, (struct_kept c, (packed_kept c, (named_kept, other_kept c))))))
+
 pub type_kept : (c : Context) → Spares (base number) (type_rule c) 2
 unfolding type_rule
-type_kept c = (
-  int_kept,
-  (
-    word_type (k.Ptr ∷ []) (λ t. types.Ptr) (λ t st from h. tt),
-    (
-      word_type (k.Void ∷ []) (λ t. types.Void) (λ t st from h. tt),
-      (array_kept c, (struct_kept c, (packed_kept c, (named_kept, other_kept c)))),
-    ),
-  ),
-)
+type_kept c = (word_type voids (λ t. types.Void) (λ t st from h. tt), solid_kept c)
 
-array_rule_kept : (c : Context) → Spares (base number) (array_rule c) 0
+pub array_rule_kept : (c : Context) → Spares (base number) (array_rule c) 0
 unfolding array_rule
 array_rule_kept c = (
   1,
@@ -125,7 +120,7 @@ array_rule_kept c = (
 
 comma_type_kept : (c : Context) → Spares (base number) (comma_type c) 1
 unfolding comma_type
-comma_type_kept c = then_kept (the k.Comma) (type_rule c) 1 8 2 (omega arith) (type_kept c) (omega arith)
+comma_type_kept c = then_kept (one commas) (type_rule c) 1 8 2 (omega arith) (type_kept c) (omega arith)
 
 more_types_kept : (c : Context) → Spares (list (base number)) (more_types c) 0
 unfolding more_types
@@ -134,11 +129,11 @@ more_types_kept c = (omega arith, comma_type_kept c)
 one_type_kept : (c : Context) → Spares (base number) (type_rule c) 1
 one_type_kept c = fewer shared reading (base number) (type_rule c) 2 1 (omega arith) (type_kept c)
 
-types_rule_kept : (c : Context) → Spares (list (base number)) (types_rule c) 0
+pub types_rule_kept : (c : Context) → Spares (list (base number)) (types_rule c) 0
 unfolding types_rule
 types_rule_kept c = list_kept number (type_rule c) (more_types c) (one_type_kept c) (more_types_kept c)
 
-ptr_kept : Spares token ptr_word 8
+pub ptr_kept : Spares token ptr_word 8
 unfolding ptr_word
 ptr_kept = (omega arith, tt)
 
@@ -168,7 +163,7 @@ part_kept = (
   ),
 )
 
-run_kept : Spares nothing any_run 0
+pub run_kept : Spares nothing any_run 0
 unfolding any_run
 run_kept = gone_kept (many any_part) 0 (omega arith, part_kept)
 
@@ -197,11 +192,11 @@ flag_kept = (
   gone_kept (the k.InRange ⨾ in_parens) 1 (8, 16, omega arith, in_parens_kept, omega arith),
 )
 
-flags_kept : Spares nothing flags 0
+pub flags_kept : Spares nothing flags 0
 unfolding flags
 flags_kept = gone_kept (many flag) 0 (omega arith, flag_kept)
 
-address_parens_kept : Spares (base constant) address_parens 2
+pub address_parens_kept : Spares (base constant) address_parens 2
 unfolding address_parens
 address_parens_kept = omega arith
 
@@ -257,13 +252,13 @@ typed_kept = (
 
 comma_constant_kept : Spares (base element) comma_constant 1
 unfolding comma_constant
-comma_constant_kept = then_kept (the k.Comma) typed_constant 1 8 1 (omega arith) typed_kept (omega arith)
+comma_constant_kept = then_kept (one commas) typed_constant 1 8 1 (omega arith) typed_kept (omega arith)
 
 more_elements_kept : Spares (list (base element)) more_elements 0
 unfolding more_elements
 more_elements_kept = (omega arith, comma_constant_kept)
 
-elements_kept : Spares (list (base element)) elements_rule 0
+pub elements_kept : Spares (list (base element)) elements_rule 0
 unfolding elements_rule
 elements_kept = list_kept element typed_constant more_elements typed_kept more_elements_kept
 
@@ -273,7 +268,7 @@ comma_index_kept = (
   0,
   1,
   (λ v st from good sound. kept_same (base index) (record { ty = v.0; value = integer_of v.1 }) st (size_of st + (0 + 0) + 0) good sound.0 (omega arith)),
-  then_kept (the k.Comma) (type_rule at.Plain ⨾ one integers) 1 8 10 (omega arith) (2, 8, type_kept at.Plain, omega arith, omega arith) (omega arith),
+  then_kept (one commas) (type_rule at.Plain ⨾ one integers) 1 8 10 (omega arith) (2, 8, type_kept at.Plain, omega arith, omega arith) (omega arith),
   omega arith,
 )
 
@@ -284,9 +279,9 @@ indices_kept = (omega arith, comma_index_kept)
 address_base_kept : Spares (pair (base number) (base constant)) address_base 8
 unfolding address_base
 address_base_kept =
-    (2, 10, type_kept at.Plain, then_kept (the k.Comma) (ptr_word ▷ constant_rule) 10 8 10 (omega arith) (then_kept ptr_word constant_rule 10 8 2 ptr_kept constant_kept (omega arith)) (omega arith), omega arith)
+    (2, 10, type_kept at.Plain, then_kept (one commas) (ptr_word ▷ constant_rule) 10 8 10 (omega arith) (then_kept ptr_word constant_rule 10 8 2 ptr_kept constant_kept (omega arith)) (omega arith), omega arith)
 
-address_kept : Spares (base constant) address_rule 0
+pub address_kept : Spares (base constant) address_rule 0
 unfolding address_rule
 address_kept = (
   1,
@@ -341,37 +336,28 @@ maybe_local_kept : Spares (option token) maybe_local 0
 unfolding maybe_local
 maybe_local_kept = (omega arith, omega arith)
 
-parameter_kept : Spares (base parameter) parameter_rule 1
+parameter_kept : (c : Context) → Spares (base parameter) (parameter_rule c) 1
 unfolding parameter_rule
-parameter_kept = (
+parameter_kept c = (
   0,
   2,
   (λ v st from good sound. kept_same (base parameter) (record { ty = v.0; name = token_in v.1 }) st (size_of st + (0 + items_in shared reading (option token) v.1) + 0) good sound.0 (omega arith)),
-  (2, 0, type_kept at.Declare, then_kept (attributes at.Parameter) maybe_local 0 0 0 (attributes_kept at.Parameter) maybe_local_kept (omega arith), omega arith),
+  (2, 0, type_kept c, then_kept (attributes (behind_type c)) maybe_local 0 0 0 (attributes_kept (behind_type c)) maybe_local_kept (omega arith), omega arith),
   omega arith,
 )
 
-comma_parameter_kept : Spares (base parameter) comma_parameter 1
+comma_parameter_kept : (c : Context) → Spares (base parameter) (comma_parameter c) 1
 unfolding comma_parameter
-comma_parameter_kept = then_kept (the k.Comma) parameter_rule 1 8 1 (omega arith) parameter_kept (omega arith)
+comma_parameter_kept c = then_kept (one commas) (parameter_rule c) 1 8 1 (omega arith) (parameter_kept c) (omega arith)
 
-more_parameters_kept : Spares (list (base parameter)) more_parameters 0
+more_parameters_kept : (c : Context) → Spares (list (base parameter)) (more_parameters c) 0
 unfolding more_parameters
-more_parameters_kept = (omega arith, comma_parameter_kept)
+more_parameters_kept c = (omega arith, comma_parameter_kept c)
 
-parameters_rule_kept : Spares (list (base parameter)) parameters_rule 0
+pub parameters_rule_kept : (c : Context) → Spares (list (base parameter)) (parameters_rule c) 0
 unfolding parameters_rule
-parameters_rule_kept = list_kept parameter parameter_rule more_parameters parameter_kept more_parameters_kept
+parameters_rule_kept c = list_kept parameter (parameter_rule c) (more_parameters c) (parameter_kept c) (more_parameters_kept c)
 
-pub parameters_kept : Spares (list (base parameter)) parameters 16
+pub parameters_kept : (c : Context) → Spares (list (base parameter)) (parameters c) 16
 unfolding parameters
-parameters_kept = omega arith
-
--- the rule of each name keeps all
-pub names_kept : (n : Name) → Spares (sort_of n) (production n) 0
-names_kept (array_inside c) = array_rule_kept c
-names_kept (types_inside c) = types_rule_kept c
-names_kept elements_inside = elements_kept
-names_kept address_inside = address_kept
-names_kept parameters_inside = parameters_rule_kept
-names_kept any_inside = run_kept
+parameters_kept c = omega arith

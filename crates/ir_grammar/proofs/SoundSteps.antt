@@ -12,9 +12,10 @@ use Rattle.ir_grammar.specs.declared.spelled.TypedConstant.{TypedConstant}
 use Rattle.ir_grammar.specs.declared.spelled.TypedIndex.{TypedIndex}
 use Rattle.ir_grammar.specs.Rules.{nothing, base, list, Value}
 use Rattle.ir_grammar.specs.Spelled.{Store, add_type, add_struct_type, add_constant, add_array, add_struct, add_address, add_item, add_declare}
-use Rattle.ir_grammar.specs.Names.{Base, Carrier, number, constant, element, index, parameter, shared}
-use Rattle.ir_grammar.specs.SoundStore.{IsInRange, IsSoundType, Counts, counts_of, IsSoundConstant, IsSoundElement, IsSoundIndex, IsSoundParameter, IsSoundItem, IsSoundStore, size_of}
+use Rattle.ir_grammar.specs.Names.{Base, Carrier, number, constant, element, index, parameter, operand, typed, incoming, case, attachment, operation, instruction, block, shared}
+use Rattle.ir_grammar.specs.SoundStore.{IsInRange, IsSoundType, Counts, counts_of, IsSoundConstant, IsSoundElement, IsSoundIndex, IsSoundParameter, IsSoundItem, IsSoundOperand, IsSoundTyped, IsSoundIncoming, IsSoundCase, IsSoundOperation, IsSoundInstruction, IsSoundBlock, IsSoundBodies, IsSoundStore, size_of}
 use Rattle.std.proofs.lemmas.List.Elements.{All-append, All-cons, All-nil}
+use Rattle.ir_grammar.proofs.SoundBodies.{all_more, IsBelow, GrownBodies, same_bodies, bodies_on, operand_stays, typed_stays, incoming_stays, case_stays, operation_stays, instruction_stays, block_stays, bodies_stay}
 use Rattle.ir_grammar.proofs.Kept.{Keeping, SoundValue, items_in, Kept}
 
 -- a base value among what was read
@@ -24,6 +25,14 @@ SoundIn constant n st = n < length st.constants
 SoundIn element e st = IsSoundElement (counts_of st) e
 SoundIn index i st = IsSoundIndex (counts_of st) i
 SoundIn parameter p st = IsSoundParameter (counts_of st) p
+SoundIn operand x st = IsSoundOperand (counts_of st) x
+SoundIn typed x st = IsSoundTyped (counts_of st) x
+SoundIn incoming x st = IsSoundIncoming (counts_of st) x
+SoundIn case x st = IsSoundCase (counts_of st) x
+SoundIn attachment x st = Unit {0}
+SoundIn operation x st = IsSoundOperation (counts_of st) x
+SoundIn instruction x st = IsSoundInstruction (counts_of st) x
+SoundIn block x st = IsSoundBlock (counts_of st) x
 
 -- there is no less of anything
 pub record Grown (before after : Store) : Type 0 where
@@ -33,9 +42,10 @@ pub record Grown (before after : Store) : Type 0 where
   pub elements : length before.elements ≤ length after.elements
   pub indices : length before.indices ≤ length after.indices
   pub parameters : length before.parameters ≤ length after.parameters
+  pub bodies : GrownBodies before.bodies after.bodies
 
 pub still : (st : Store) → Grown st st
-still st = record { types = omega arith; fields = omega arith; constants = omega arith; elements = omega arith; indices = omega arith; parameters = omega arith }
+still st = record { types = omega arith; fields = omega arith; constants = omega arith; elements = omega arith; indices = omega arith; parameters = omega arith; bodies = same_bodies st.bodies }
 
 pub grown_on : (a b c : Store) → Grown a b → Grown b c → Grown a c
 grown_on a b c g h = record {
@@ -45,6 +55,21 @@ grown_on a b c g h = record {
   elements = let p = g.elements in let q = h.elements in omega arith;
   indices = let p = g.indices in let q = h.indices in omega arith;
   parameters = let p = g.parameters in let q = h.parameters in omega arith;
+  bodies = bodies_on a.bodies b.bodies c.bodies g.bodies h.bodies;
+}
+
+pub below : (st st' : Store) → Grown st st' → IsBelow (counts_of st) (counts_of st')
+below st st' g = record {
+  types = g.types;
+  constants = g.constants;
+  elements = g.elements;
+  indices = g.indices;
+  parameters = g.parameters;
+  operands = g.bodies.operands;
+  incoming = g.bodies.incoming;
+  cases = g.bodies.cases;
+  attachments = g.bodies.attachments;
+  instructions = g.bodies.instructions;
 }
 
 pub stays : (b : Base) (x : Carrier b) (st st' : Store) → Grown st st' → SoundIn b x st → SoundIn b x st'
@@ -53,24 +78,18 @@ stays constant x st st' g h = let p = g.constants in omega arith
 stays element x st st' g h = let p = g.types in let q = g.constants in let h0 = h.0 in let h1 = h.1 in (omega arith, omega arith)
 stays index x st st' g h = let p = g.types in omega arith
 stays parameter x st st' g h = let p = g.types in omega arith
+stays operand x st st' g h = operand_stays (counts_of st) (counts_of st') (below st st' g) x h
+stays typed x st st' g h = typed_stays (counts_of st) (counts_of st') (below st st' g) x h
+stays incoming x st st' g h = incoming_stays (counts_of st) (counts_of st') (below st st' g) x h
+stays case x st st' g h = case_stays (counts_of st) (counts_of st') (below st st' g) x h
+stays attachment x st st' g h = tt
+stays operation x st st' g h = operation_stays (counts_of st) (counts_of st') (below st st' g) x h
+stays instruction x st st' g h = instruction_stays (counts_of st) (counts_of st') (below st st' g) x h
+stays block x st st' g h = block_stays (counts_of st) (counts_of st') (below st st' g) x h
 
 -- what reading keeps
 abbrev pub reading : Keeping shared
 reading = record { Good = IsSoundStore; Sound = SoundIn; Grows = Grown; Fine = IsInRange; weight = size_of; same = still; on = grown_on; later = stays }
-
-all_more : {A : Type 0} (P Q : A → Type 0) (xs : List A) → ((x : A) → P x → Q x) → All P xs → All Q xs
-all_more P Q xs f h k d below = f (get_or xs k d) (h k d below)
-
--- so many things are no less
-pub record IsBelow (n m : Counts) : Type 0 where
-  pub types : n.types ≤ m.types
-  pub constants : n.constants ≤ m.constants
-  pub elements : n.elements ≤ m.elements
-  pub indices : n.indices ≤ m.indices
-  pub parameters : n.parameters ≤ m.parameters
-
-below : (st st' : Store) → Grown st st' → IsBelow (counts_of st) (counts_of st')
-below st st' g = record { types = g.types; constants = g.constants; elements = g.elements; indices = g.indices; parameters = g.parameters }
 
 type_stays : (n m f g : ℕ) → n ≤ m → f ≤ g → (t : SpelledType) → IsSoundType n f t → IsSoundType m g t
 type_stays n m f g le lf (types.Int w) h = h
@@ -113,8 +132,9 @@ pub record StaySound (st after : Store) : Type 0 where
   pub indices : All (IsSoundIndex (counts_of after)) st.indices
   pub parameters : All (IsSoundParameter (counts_of after)) st.parameters
   pub items : All (IsSoundItem (counts_of after)) st.items
+  pub bodies : IsSoundBodies (counts_of after) st.bodies
 
-lists_stay : (st after : Store) → IsSoundStore st → Grown st after → StaySound st after
+pub lists_stay : (st after : Store) → IsSoundStore st → Grown st after → StaySound st after
 lists_stay st after h g =
     let b = below st after g in
     let lt = g.types in
@@ -128,6 +148,7 @@ lists_stay st after h g =
       indices = all_more (IsSoundIndex (counts_of st)) (IsSoundIndex (counts_of after)) st.indices (λ x p. omega arith) h.indices;
       parameters = all_more (IsSoundParameter (counts_of st)) (IsSoundParameter (counts_of after)) st.parameters (λ x p. omega arith) h.parameters;
       items = all_more (IsSoundItem (counts_of st)) (IsSoundItem (counts_of after)) st.items (item_stays (counts_of st) (counts_of after) b) h.items;
+      bodies = bodies_stay (counts_of st) (counts_of after) b st.bodies h.bodies;
     }
 
 -- nothing is added
@@ -159,7 +180,7 @@ pub kept_type : (t : SpelledType) (st : Store) (budget : ℕ) → IsSoundStore s
     → Kept shared reading (base number) (add_type t st).0 st (add_type t st).1 budget
 kept_type t st budget good h le =
     let longer : length (st.types ++ t ∷ []) ≡ length st.types + 1 = length-append st.types (t ∷ []) in
-    let g : Grown st (add_type t st).1 = record { types = omega (arith, longer); fields = omega arith; constants = omega arith; elements = omega arith; indices = omega arith; parameters = omega arith } in
+    let g : Grown st (add_type t st).1 = record { types = omega (arith, longer); fields = omega arith; constants = omega arith; elements = omega arith; indices = omega arith; parameters = omega arith; bodies = same_bodies st.bodies } in
     let s = lists_stay st (add_type t st).1 good g in
     record {
       good = record {
@@ -170,6 +191,7 @@ kept_type t st budget good h le =
         indices = s.indices;
         parameters = s.parameters;
         items = s.items;
+        bodies = s.bodies;
       };
       grows = g;
       sound = omega (arith, longer);
@@ -182,7 +204,7 @@ pub kept_struct_type : (packed : Bool) (found : List ℕ) (st : Store) (budget :
 kept_struct_type packed found st budget good h le =
     let mid : Store = record st { fields = st.fields ++ found } in
     let longer : length (st.fields ++ found) ≡ length st.fields + length found = length-append st.fields found in
-    let g : Grown st mid = record { types = omega arith; fields = omega (arith, longer); constants = omega arith; elements = omega arith; indices = omega arith; parameters = omega arith } in
+    let g : Grown st mid = record { types = omega arith; fields = omega (arith, longer); constants = omega arith; elements = omega arith; indices = omega arith; parameters = omega arith; bodies = same_bodies st.bodies } in
     let s = lists_stay st mid good g in
     let good' : IsSoundStore mid = record {
       types = s.types;
@@ -192,6 +214,7 @@ kept_struct_type packed found st budget good h le =
       indices = s.indices;
       parameters = s.parameters;
       items = s.items;
+      bodies = s.bodies;
     } in
     let k = kept_type (types.Struct (length st.fields) (length found) packed) mid budget good' (omega (arith, longer)) (omega (arith, longer)) in
     record { good = k.good; grows = grown_on st mid (add_struct_type packed found st).1 g k.grows; sound = k.sound; light = k.light }
@@ -201,7 +224,7 @@ pub kept_constant : (c : SpelledConstant) (st : Store) (budget : ℕ) → IsSoun
     → Kept shared reading (base constant) (add_constant c st).0 st (add_constant c st).1 budget
 kept_constant c st budget good h le =
     let longer : length (st.constants ++ c ∷ []) ≡ length st.constants + 1 = length-append st.constants (c ∷ []) in
-    let g : Grown st (add_constant c st).1 = record { types = omega arith; fields = omega arith; constants = omega (arith, longer); elements = omega arith; indices = omega arith; parameters = omega arith } in
+    let g : Grown st (add_constant c st).1 = record { types = omega arith; fields = omega arith; constants = omega (arith, longer); elements = omega arith; indices = omega arith; parameters = omega arith; bodies = same_bodies st.bodies } in
     let s = lists_stay st (add_constant c st).1 good g in
     record {
       good = record {
@@ -212,6 +235,7 @@ kept_constant c st budget good h le =
         indices = s.indices;
         parameters = s.parameters;
         items = s.items;
+        bodies = s.bodies;
       };
       grows = g;
       sound = omega (arith, longer);
@@ -224,7 +248,7 @@ with_elements : (found : List TypedConstant) (st : Store) → IsSoundStore st �
 with_elements found st good h =
     let mid : Store = record st { elements = st.elements ++ found } in
     let longer : length (st.elements ++ found) ≡ length st.elements + length found = length-append st.elements found in
-    let g : Grown st mid = record { types = omega arith; fields = omega arith; constants = omega arith; elements = omega (arith, longer); indices = omega arith; parameters = omega arith } in
+    let g : Grown st mid = record { types = omega arith; fields = omega arith; constants = omega arith; elements = omega (arith, longer); indices = omega arith; parameters = omega arith; bodies = same_bodies st.bodies } in
     let s = lists_stay st mid good g in (
       record {
         types = s.types;
@@ -234,6 +258,7 @@ with_elements found st good h =
         indices = s.indices;
         parameters = s.parameters;
         items = s.items;
+        bodies = s.bodies;
       },
       g,
     )
@@ -262,7 +287,7 @@ pub kept_address : (ty value : ℕ) (found : List TypedIndex) (st : Store) (budg
 kept_address ty value found st budget good ht hv h le =
     let mid : Store = record st { indices = st.indices ++ found } in
     let longer : length (st.indices ++ found) ≡ length st.indices + length found = length-append st.indices found in
-    let g : Grown st mid = record { types = omega arith; fields = omega arith; constants = omega arith; elements = omega arith; indices = omega (arith, longer); parameters = omega arith } in
+    let g : Grown st mid = record { types = omega arith; fields = omega arith; constants = omega arith; elements = omega arith; indices = omega (arith, longer); parameters = omega arith; bodies = same_bodies st.bodies } in
     let s = lists_stay st mid good g in
     let good' : IsSoundStore mid = record {
       types = s.types;
@@ -272,6 +297,7 @@ kept_address ty value found st budget good ht hv h le =
       indices = All-append (IsSoundIndex (counts_of mid)) st.indices found s.indices (all_more (IsSoundIndex (counts_of st)) (IsSoundIndex (counts_of mid)) found (λ x p. p) (indices_sound found st h));
       parameters = s.parameters;
       items = s.items;
+      bodies = s.bodies;
     } in
     let k = kept_constant (constants.Address ty value (length st.indices) (length found)) mid budget good' (ht, hv, omega (arith, longer)) (omega (arith, longer)) in
     record { good = k.good; grows = grown_on st mid (add_address ty value found st).1 g k.grows; sound = k.sound; light = k.light }
@@ -281,7 +307,7 @@ pub kept_item : (i : SpelledItem) (st : Store) (budget : ℕ) → IsSoundStore s
     → Kept shared reading nothing (add_item i st).0 st (add_item i st).1 budget
 kept_item i st budget good h le =
     let longer : length (st.items ++ i ∷ []) ≡ length st.items + 1 = length-append st.items (i ∷ []) in
-    let g : Grown st (add_item i st).1 = record { types = omega arith; fields = omega arith; constants = omega arith; elements = omega arith; indices = omega arith; parameters = omega arith } in
+    let g : Grown st (add_item i st).1 = record { types = omega arith; fields = omega arith; constants = omega arith; elements = omega arith; indices = omega arith; parameters = omega arith; bodies = same_bodies st.bodies } in
     let s = lists_stay st (add_item i st).1 good g in
     record {
       good = record {
@@ -292,6 +318,7 @@ kept_item i st budget good h le =
         indices = s.indices;
         parameters = s.parameters;
         items = one_more (IsSoundItem (counts_of st)) st.items i s.items h;
+        bodies = s.bodies;
       };
       grows = g;
       sound = tt;
@@ -304,7 +331,7 @@ pub kept_declare : (name : Token) (ty : ℕ) (found : List SpelledParameter) (st
 kept_declare name ty found st budget good ht h le =
     let mid : Store = record st { parameters = st.parameters ++ found } in
     let longer : length (st.parameters ++ found) ≡ length st.parameters + length found = length-append st.parameters found in
-    let g : Grown st mid = record { types = omega arith; fields = omega arith; constants = omega arith; elements = omega arith; indices = omega arith; parameters = omega (arith, longer) } in
+    let g : Grown st mid = record { types = omega arith; fields = omega arith; constants = omega arith; elements = omega arith; indices = omega arith; parameters = omega (arith, longer); bodies = same_bodies st.bodies } in
     let s = lists_stay st mid good g in
     let good' : IsSoundStore mid = record {
       types = s.types;
@@ -314,6 +341,7 @@ kept_declare name ty found st budget good ht h le =
       indices = s.indices;
       parameters = All-append (IsSoundParameter (counts_of mid)) st.parameters found s.parameters (all_more (IsSoundParameter (counts_of st)) (IsSoundParameter (counts_of mid)) found (λ x p. p) (parameters_sound found st h));
       items = s.items;
+      bodies = s.bodies;
     } in
     let k = kept_item (items.Declare name ty (length st.parameters) (length found)) mid budget good' (ht, omega (arith, longer)) (omega (arith, longer)) in
     record { good = k.good; grows = grown_on st mid (add_declare name ty found st).1 g k.grows; sound = tt; light = k.light }

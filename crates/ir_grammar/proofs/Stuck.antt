@@ -19,17 +19,17 @@ abbrev pub Leaves : {Store A : Type 0} → ℕ → Outcome Store A → Type 0
 Leaves n (Ok x) = length x.1 ≤ n
 Leaves n (Err e) = e.left ≤ n
 
-leaves_bind : {Store A B : Type 0} (n : ℕ) (r : Outcome Store A) (f : A × List Terminal × Store → Outcome Store B)
+pub leaves_bind : {Store A B : Type 0} (n : ℕ) (r : Outcome Store A) (f : A × List Terminal × Store → Outcome Store B)
     → Leaves n r → ((x : A × List Terminal × Store) → length x.1 ≤ n → Leaves n (f x)) → Leaves n (r >>= f)
 leaves_bind n (Ok x) f h k = k x h
 leaves_bind n (Err e) f h k = h
 
-leaves_more : {Store A : Type 0} (n m : ℕ) (r : Outcome Store A) → n ≤ m → Leaves n r → Leaves m r
+pub leaves_more : {Store A : Type 0} (n m : ℕ) (r : Outcome Store A) → n ≤ m → Leaves n r → Leaves m r
 leaves_more n m (Ok x) le h = omega arith
 leaves_more n m (Err e) le h = omega arith
 
 -- of two lists, joined, the middle lies in the first or in the second
-split : (xs ys pre : List Terminal) (h : Terminal) (m : List Terminal) → xs ++ ys ≡ pre ++ h ∷ m
+pub split : (xs ys pre : List Terminal) (h : Terminal) (m : List Terminal) → xs ++ ys ≡ pre ++ h ∷ m
     → ((m' : List Terminal) × (xs ≡ pre ++ h ∷ m')) ⊎ ((pre' : List Terminal) × (pre ≡ xs ++ pre') × (ys ≡ pre' ++ h ∷ m))
 split [] ys pre h m e = inr (pre, refl, e)
 split (x ∷ xs) ys [] h m e = let p : x ≡ h = cc in inl (xs, ap (λ v. v ∷ xs) p)
@@ -55,7 +55,7 @@ follows_middle : (ks js : List Kind) (e : Bool) (pre : List Terminal) (h : Termi
 follows_middle ks js e [] h m t a f = false_of (is_among ks h.kind) (λ p. apart ks js h.kind a p f)
 follows_middle ks js e (p ∷ pre) h m t a f = false_of (is_among ks p.kind) (λ q. apart ks js p.kind a q f)
 
-take_within : {Store : Type 0} (ks : List Kind) (ts : List Terminal) (st : Store) → Leaves (length ts) (take ks ts st)
+pub take_within : {Store : Type 0} (ks : List Kind) (ts : List Terminal) (st : Store) → Leaves (length ts) (take ks ts st)
 take_within ks ts st = go (take ks ts st) refl
   where
     go : (r : Outcome _ Terminal) → take ks ts st ≡ r → Leaves (length ts) r

@@ -10,12 +10,12 @@ use Rattle.ir_grammar.specs.Rules.{base}
 use Rattle.ir_grammar.specs.Spelled.{Store}
 use Rattle.ir_grammar.specs.Names.{number, shared}
 use Rattle.ir_grammar.specs.Grammar.{production, read, with_front}
-use Rattle.ir_grammar.specs.Types.{type_rule, int_type, named_type, array_type, braced_types, struct_type, packed_type, other_type, comma_type, more_types, types_rule}
+use Rattle.ir_grammar.specs.Types.{type_rule, solid_type, int_type, named_type, array_type, braced_types, struct_type, packed_type, other_type, comma_type, more_types, types_rule}
 use Rattle.ir_grammar.proofs.First.{shortens}
 use Rattle.ir_grammar.proofs.Loops.{many_more, many_done, many_failed, commas_none, front_more, front_done}
 
 pub types_more : (c : Context) (levels : ℕ) (front : List ℕ) (ts : List Terminal) (st : Store) (x : ℕ × List Terminal × Store)
-    → starts (k.Comma ∷ []) ts ≡ true → read levels (comma_type c) ts st ≡ Ok x
+    → starts (k.Comma ∷ k.MetaComma ∷ []) ts ≡ true → read levels (comma_type c) ts st ≡ Ok x
     → with_front front (read levels (more_types c) ts st) ≡ with_front (front ++ x.0 ∷ []) (read levels (more_types c) x.1 x.2)
 unfolding more_types
 types_more c levels front ts st x h e =
@@ -23,13 +23,13 @@ types_more c levels front ts st x h e =
     ∙ front_more front x.0 (read levels (more_types c) x.1 x.2)
 
 pub types_done : (c : Context) (levels : ℕ) (front : List ℕ) (ts : List Terminal) (st : Store)
-    → starts (k.Comma ∷ []) ts ≡ false → with_front front (read levels (more_types c) ts st) ≡ Ok (front, ts, st)
+    → starts (k.Comma ∷ k.MetaComma ∷ []) ts ≡ false → with_front front (read levels (more_types c) ts st) ≡ Ok (front, ts, st)
 unfolding more_types
 types_done c levels front ts st h =
     ap (with_front front) (many_done shared production levels (base number) (comma_type c) ts st (unfold comma_type in h)) ∙ front_done front ts st
 
 pub types_failed : (c : Context) (levels : ℕ) (front : List ℕ) (ts : List Terminal) (st : Store) (e : Flaw)
-    → starts (k.Comma ∷ []) ts ≡ true → read levels (comma_type c) ts st ≡ Err e → with_front front (read levels (more_types c) ts st) ≡ Err e
+    → starts (k.Comma ∷ k.MetaComma ∷ []) ts ≡ true → read levels (comma_type c) ts st ≡ Err e → with_front front (read levels (more_types c) ts st) ≡ Err e
 unfolding more_types
 types_failed c levels front ts st e h q =
     ap (with_front front) (many_failed shared production levels (base number) (comma_type c) ts st e (unfold comma_type in h) q)
@@ -39,7 +39,7 @@ pub comma_type_takes : (c : Context) (levels : ℕ) (ts : List Terminal) (st : S
 comma_type_takes c levels ts st x h = shortens shared production levels (base number) (comma_type c) ts st x (unfold comma_type in refl) h
 
 pub type_full : (c : Context) → is_empty (type_rule c) ≡ false
-unfolding type_rule int_type named_type array_type braced_types struct_type packed_type other_type
+unfolding type_rule solid_type int_type named_type array_type braced_types struct_type packed_type other_type
 type_full at.Plain = refl
 type_full at.Global = refl
 type_full at.GlobalTail = refl

@@ -6,7 +6,7 @@ use Rattle.ir_grammar.specs.declared.kind.Kind.TheVariants as k
 use Rattle.ir_grammar.specs.declared.spelled.SpelledConstant.TheVariants as constants
 use Rattle.ir_grammar.specs.Rules.{nothing, base, pair, list, one, refused, ◌⨾◌, ◌∣◌, optional, many, between, act, the, just, gone, ◌▷◌, ◌◁◌, items_of}
 use Rattle.ir_grammar.specs.Names.{Production, number, constant, element, index, elements_inside, address_inside}
-use Rattle.ir_grammar.specs.Words.{integers, locals, globals, refused_values}
+use Rattle.ir_grammar.specs.Words.{integers, locals, globals, commas, refused_values}
 use Rattle.ir_grammar.specs.Spelled.{add_constant, add_array, add_struct, add_address, integer_of}
 use Rattle.ir_grammar.specs.Skipped.{in_parens}
 use Rattle.ir_grammar.specs.Types.{type_rule, ptr_word}
@@ -74,7 +74,7 @@ typed_constant = just (λ v. record { ty = v.0; value = v.1 }) (type_rule at.Pla
 
 -- , type const
 unfoldable pub comma_constant : Production (base element)
-comma_constant = the k.Comma ▷ typed_constant
+comma_constant = one commas ▷ typed_constant
 
 -- (, type const)*
 unfoldable pub more_elements : Production (list (base element))
@@ -86,7 +86,7 @@ elements_rule = just items_of (optional (typed_constant ⨾ more_elements))
 
 -- , type integer
 unfoldable pub comma_index : Production (base index)
-comma_index = just (λ v. record { ty = v.0; value = integer_of v.1 }) (the k.Comma ▷ (type_rule at.Plain ⨾ one integers))
+comma_index = just (λ v. record { ty = v.0; value = integer_of v.1 }) (one commas ▷ (type_rule at.Plain ⨾ one integers))
 
 -- (, type integer)*
 unfoldable pub indices : Production (list (base index))
@@ -94,7 +94,7 @@ indices = many comma_index
 
 -- type , ptr const
 unfoldable pub address_base : Production (pair (base number) (base constant))
-address_base = type_rule at.Plain ⨾ (the k.Comma ▷ (ptr_word ▷ constant_rule))
+address_base = type_rule at.Plain ⨾ (one commas ▷ (ptr_word ▷ constant_rule))
 
 -- type , ptr const (, type integer)*
 unfoldable pub address_rule : Production (base constant)

@@ -7,11 +7,16 @@ use Rattle.ir_grammar.specs.declared.reader.Reader.{Reader}
 use Rattle.ir_grammar.specs.Rules.{Sort, Value}
 use Rattle.ir_grammar.specs.Reading.{Outcome, ◌>>=◌, Reading, read_in, inside, too_deep}
 use Rattle.ir_grammar.specs.Spelled.{Store, store_of}
-use Rattle.ir_grammar.specs.Names.{Base, Name, array_inside, types_inside, elements_inside, address_inside, parameters_inside, any_inside, sort_of, shared, Production}
+use Rattle.ir_grammar.specs.Names.{Base, Name, array_inside, types_inside, elements_inside, address_inside, parameters_inside, any_inside, incoming_inside, pair_inside, arguments_inside, cases_inside, scope_inside, blocks_inside, sort_of, shared, Production}
 use Rattle.ir_grammar.specs.Skipped.{any_run}
 use Rattle.ir_grammar.specs.Types.{array_rule, types_rule}
 use Rattle.ir_grammar.specs.Constants.{elements_rule, address_rule}
 use Rattle.ir_grammar.specs.Parameters.{parameters_rule}
+use Rattle.ir_grammar.specs.Operands.{scope_rule}
+use Rattle.ir_grammar.specs.Instructions.{incoming_rule, pair_rule}
+use Rattle.ir_grammar.specs.Calls.{arguments_rule}
+use Rattle.ir_grammar.specs.Terminators.{cases_rule}
+use Rattle.ir_grammar.specs.Blocks.{blocks_rule}
 
 -- the rule of each name
 abbrev pub production : (n : Name) → Production (sort_of n)
@@ -19,8 +24,14 @@ production (array_inside c) = array_rule c
 production (types_inside c) = types_rule c
 production elements_inside = elements_rule
 production address_inside = address_rule
-production parameters_inside = parameters_rule
+production (parameters_inside c) = parameters_rule c
 production any_inside = any_run
+production incoming_inside = incoming_rule
+production pair_inside = pair_rule
+production arguments_inside = arguments_rule
+production cases_inside = cases_rule
+production scope_inside = scope_rule
+production blocks_inside = blocks_rule
 
 -- how many brackets may stand around one another. This project's choice
 abbrev pub nesting_limit : ℕ

@@ -1,4 +1,5 @@
--- The kind of each token: a function of the token, its text and the token behind it. The words are those of the LLVM
+-- The kind of each token: a function of the token, its text and what comes after it: the next token, and after a `void`
+-- those that tell whether an operand begins. The words are those of the LLVM
 -- Language Reference; which of them are one kind, and which this program doesn't take, is this project's choice.
 use Rattle.std.specs.Prelude.{ℕ, List, [], ◌∷◌, ◌++◌, length, drop, min, Bool, false, not, ◌&&◌, ◌||◌, ◌==◌, ◌-◌, ◌^◌, nat_eq, nat_lt, nat_le, if◌then◌else◌, codes, Option, None, Some, unwrap_or}
 use Rattle.std.specs.List.{list_all, starts_with}
@@ -13,11 +14,12 @@ use Rattle.ir_core.specs.declared.token.TokenKind.TheVariants as tokens
 use Rattle.ir_core.specs.contracts.token.TokenKind.{the_type}
 use denote.Enum.Bare.{sameb}
 use Rattle.ir_core.specs.Tokens.{bytes_of}
-use Rattle.ir_text.specs.Names.{is_used_list}
+use Rattle.ir_text.specs.Names.{is_used_list, is_debug_function}
 use Rattle.ir_text.specs.DataLayout.{is_layout_taken}
 use Rattle.ir_grammar.specs.declared.kind.Kind.{Kind}
 use Rattle.ir_grammar.specs.declared.kind.Kind.TheVariants as k
 use Rattle.ir_grammar.specs.declared.terminal.Terminal.{Terminal}
+use Rattle.ir_grammar.specs.Kinds.{is_same}
 
 -- these are one kind of token
 unfoldable pub is_token : TokenKind → TokenKind → Bool
@@ -198,9 +200,9 @@ local_kind equals = if equals then k.LocalDefinition else k.Local
 abbrev pub meta_name_kind : Bool → Kind
 meta_name_kind equals = if equals then k.MetaDefinition else k.MetaName
 
--- a global; those that list what has to be kept are read in their own way
+-- a global; those that list what has to be kept, and functions for debuggers, are read in their own way
 abbrev pub global_kind : List ℕ → Kind
-global_kind text = if is_used_list text then k.UsedGlobal else k.Global
+global_kind text = if is_used_list text then k.UsedGlobal else (if is_debug_function text then k.DebugGlobal else k.Global)
 
 -- a string, by the data layout that it would write
 abbrev pub text_kind : List ℕ → Kind
@@ -223,6 +225,37 @@ token_kind tokens.Text text equals integer = text_kind text
 token_kind tokens.Bytes text equals integer = k.Bytes
 token_kind tokens.Mark text equals integer = mark_kind text integer
 
+-- the kind that a token has as a word, and that of the end of the text for a token that is no word
+abbrev pub word_of : List ℕ → Token → Kind
+word_of source t = if is_token tokens.Word t.kind then word_kind (bytes_of source t) else k.End
+
+-- the token is `(`
+abbrev pub opens_parens : List ℕ → Token → Bool
+opens_parens source t = is_token tokens.Mark t.kind && bytes_eq (bytes_of source t) (codes "(")
+
+-- after flags comes `(` or `inrange`
+abbrev pub parens_follow : List ℕ → List Token → Bool
+parens_follow source [] = false
+parens_follow source (t ∷ ts) =
+    if is_same (word_of source t) k.Flag then parens_follow source ts else is_same (word_of source t) k.InRange || opens_parens source t
+
+-- a local follows that is no name of a result, or a `getelementptr` that is a constant
+abbrev pub operand_follows : List ℕ → List Token → Bool
+operand_follows source [] = false
+operand_follows source (t ∷ ts) =
+    (is_token tokens.Local t.kind && not (equals_follows source ts)) || (is_same (word_of source t) k.GetElementPtr && parens_follow source ts)
+
+-- a metadata name follows
+abbrev pub meta_name_follows : List Token → Bool
+meta_name_follows [] = false
+meta_name_follows (t ∷ ts) = is_token tokens.MetaName t.kind
+
+-- the kind of a token that has this kind by itself, before these tokens
+unfoldable pub kind_before : List ℕ → List Token → Kind → Kind
+kind_before source behind kind =
+    if is_same kind k.Comma then (if meta_name_follows behind then k.MetaComma else kind)
+    else (if is_same kind k.Void then (if operand_follows source behind then k.VoidBeforeOperand else kind) else kind)
+
 -- the number that a token spells: an integer's digits, or an integer type's width
 abbrev pub token_number : TokenKind → List ℕ → ℕ
 token_number tokens.Word text = if is_int_type text then number_of (drop 1 text) else 0
@@ -232,7 +265,7 @@ token_number kind text = 0
 -- a token of the source, before these
 abbrev pub terminal_of : List ℕ → Token → List Token → Terminal
 terminal_of source t behind = record {
-  kind = token_kind t.kind (bytes_of source t) (equals_follows source behind) (integer_follows behind);
+  kind = kind_before source behind (token_kind t.kind (bytes_of source t) (equals_follows source behind) (integer_follows behind));
   number = token_number t.kind (bytes_of source t);
   token = t;
 }

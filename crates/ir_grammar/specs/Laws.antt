@@ -29,6 +29,18 @@ BeforeFaultBegins = (levels : ℕ) (s : Sort Base) (a : Production s) (ts : List
     → goes_on a ≡ true → has true a ≡ true → read levels a ts st ≡ Err e
     → (front : List Terminal) × (rest : List Terminal) × (ts ≡ front ++ rest) × (length rest ≡ e.left) × Begins shared production s a front st
 
+-- a fault of Nesting is at a token that goes on, in a derivation of more levels
+abbrev pub NestingGoesOn : Type 0
+NestingGoesOn = (levels : ℕ) (s : Sort Base) (a : Production s) (front : List Terminal) (token : Terminal) (rest : List Terminal) (st : Store) (e : Flaw)
+    → goes_on a ≡ true → has true a ≡ true → read levels a (front ++ token ∷ rest) st ≡ Err e → e.left ≡ suc (length rest) → e.fault ≡ TooLarge Nesting
+    → Begins shared production s a (front ++ token ∷ []) st
+
+-- with the token at any fault there is no derivation of at most these levels
+abbrev pub TooFewLevels : Type 0
+TooFewLevels = (levels : ℕ) (s : Sort Base) (a : Production s) (front : List Terminal) (token : Terminal) (rest : List Terminal) (st : Store) (e : Flaw)
+    → is_clear shared production s a ≡ true → goes_on a ≡ true → read levels a (front ++ token ∷ rest) st ≡ Err e → e.left ≡ suc (length rest)
+    → (more : List Terminal) (x : Value shared s) (end : Store) → Derives shared production levels s a (front ++ token ∷ more) st x end → ⊥
+
 -- with the token at a fault they begin none, of any depth; a fault of Nesting aside
 abbrev pub FaultEnds : Type 0
 FaultEnds = (levels : ℕ) (s : Sort Base) (a : Production s) (front : List Terminal) (token : Terminal) (rest : List Terminal) (st : Store) (e : Flaw)

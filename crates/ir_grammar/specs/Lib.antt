@@ -1,13 +1,18 @@
 pub mod Attributes
+pub mod Blocks
+pub mod BodyStore
+pub mod Calls
 pub mod Conditions
 pub mod Constants
 pub mod DebugFields
 pub mod DebugNodes
 pub mod Grammar
+pub mod Instructions
 pub mod KindOf
 pub mod Kinds
 pub mod Laws
 pub mod Names
+pub mod Operands
 pub mod Parameters
 pub mod Prefixes
 pub mod Reading
@@ -15,5 +20,7 @@ pub mod Rules
 pub mod Skipped
 pub mod SoundStore
 pub mod Spelled
+pub mod SpelledBodies
+pub mod Terminators
 pub mod Types
 pub mod Words

@@ -1,6 +1,6 @@
 -- What reading builds: the types, constants and items that a text spells, in order of their ends, so that a part has a lower
 -- number than what it is part of. Names stay tokens: what they mean is decided later.
-use Rattle.std.specs.Prelude.{ℕ, List, [], ◌∷◌, ◌++◌, length, Bool, Ok}
+use Rattle.std.specs.Prelude.{ℕ, List, [], ◌∷◌, ◌++◌, length, Bool, Option, None, Some, Ok}
 use Rattle.ir_core.specs.declared.token.Token.{Token}
 use Rattle.ir_grammar.specs.declared.kind.Kind.TheVariants.{Negative}
 use Rattle.ir_grammar.specs.declared.terminal.Terminal.{Terminal}
@@ -15,12 +15,19 @@ use Rattle.ir_grammar.specs.declared.spelled.SpelledParameter.{SpelledParameter}
 use Rattle.ir_grammar.specs.declared.spelled.SpelledItem.{SpelledItem}
 use Rattle.ir_grammar.specs.declared.spelled.SpelledItem.TheVariants as items
 use Rattle.ir_grammar.specs.declared.reader.Spellings.{Spellings}
+use Rattle.ir_grammar.specs.declared.reader.SpelledBodies.{SpelledBodies}
+use Rattle.ir_grammar.specs.BodyStore.{BodyStore}
 use Rattle.ir_grammar.specs.Kinds.{is_same}
 use Rattle.ir_grammar.specs.Reading.{Outcome}
 
 -- an integer's number, and whether it is below 0
 abbrev pub integer_of : Terminal → SpelledInteger
 integer_of t = record { magnitude = t.number; negative = is_same t.kind Negative }
+
+-- its token, where there is one
+abbrev pub token_in : Option Terminal → Option Token
+token_in None = None
+token_in (Some t) = Some t.token
 
 -- the lists that reading adds to
 pub record Store : Type 0 where
@@ -31,6 +38,7 @@ pub record Store : Type 0 where
   pub indices : List TypedIndex
   pub parameters : List SpelledParameter
   pub items : List SpelledItem
+  pub bodies : BodyStore
 
 -- the type is added, and its value is its number
 abbrev pub add_type : SpelledType → Store → ℕ × Store
@@ -69,9 +77,20 @@ abbrev pub add_declare : Token → ℕ → List SpelledParameter → Store → U
 add_declare name result found store =
     add_item (items.Declare name result (length store.parameters) (length found)) (record store { parameters = store.parameters ++ found })
 
+-- the lists of bodies of the reader
+abbrev pub bodies_of : SpelledBodies → BodyStore
+bodies_of s = record {
+  operands = s.operands.items;
+  incoming = s.incoming.items;
+  cases = s.cases.items;
+  attachments = s.attachments.items;
+  instructions = s.instructions.items;
+  blocks = s.blocks.items;
+}
+
 -- the lists of the reader
 abbrev pub store_of : Spellings → Store
-store_of s = record { types = s.types.items; fields = s.fields.items; constants = s.constants.items; elements = s.elements.items; indices = s.indices.items; parameters = s.parameters.items; items = s.items.items }
+store_of s = record { types = s.types.items; fields = s.fields.items; constants = s.constants.items; elements = s.elements.items; indices = s.indices.items; parameters = s.parameters.items; items = s.items.items; bodies = bodies_of s.bodies }
 
 -- a value and a store, with the tokens that are left
 abbrev pub with_rest : {A : Type 0} → A × Store → List Terminal → Outcome Store A

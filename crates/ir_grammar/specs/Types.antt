@@ -7,7 +7,7 @@ use Rattle.ir_grammar.specs.declared.spelled.SpelledType.TheVariants as types
 use Rattle.std.specs.Prelude.{[], ◌∷◌, true, false}
 use Rattle.ir_grammar.specs.Rules.{token, base, list, one, refused, ◌⨾◌, ◌∣◌, optional, many, between, act, the, just, ◌▷◌, ◌◁◌, items_of}
 use Rattle.ir_grammar.specs.Names.{Production, number, array_inside, types_inside}
-use Rattle.ir_grammar.specs.Words.{counts, locals, refused_types}
+use Rattle.ir_grammar.specs.Words.{counts, locals, commas, voids, refused_types}
 use Rattle.ir_grammar.specs.Spelled.{add_type, add_struct_type}
 
 -- iN
@@ -40,10 +40,13 @@ other_type at.Declare = act (λ t. add_type types.Metadata) (the k.MetadataWord)
 other_type at.DeclareTail = act (λ t. add_type types.Metadata) (the k.MetadataWord) ∣ refused (refused_types at.DeclareTail)
 other_type c = refused (refused_types c)
 
+-- iN | ptr | [ integer x type ] | { types } | < { types } > | local
+unfoldable pub solid_type : Context → Production (base number)
+solid_type c = int_type ∣ act (λ t. add_type types.Ptr) (the k.Ptr) ∣ array_type c ∣ struct_type c ∣ packed_type c ∣ named_type ∣ other_type c
+
 -- iN | ptr | void | [ integer x type ] | { types } | < { types } > | local
 unfoldable pub type_rule : Context → Production (base number)
-type_rule c = int_type ∣ act (λ t. add_type types.Ptr) (the k.Ptr) ∣ act (λ t. add_type types.Void) (the k.Void)
-    ∣ array_type c ∣ struct_type c ∣ packed_type c ∣ named_type ∣ other_type c
+type_rule c = act (λ t. add_type types.Void) (one voids) ∣ solid_type c
 
 -- integer x type
 unfoldable pub array_rule : Context → Production (base number)
@@ -51,7 +54,7 @@ array_rule c = act (λ v. add_type (types.Array (v.0).number v.1)) (one counts �
 
 -- , type
 unfoldable pub comma_type : Context → Production (base number)
-comma_type c = the k.Comma ▷ type_rule c
+comma_type c = one commas ▷ type_rule c
 
 -- (, type)*
 unfoldable pub more_types : Context → Production (list (base number))

@@ -20,7 +20,15 @@ texts = k.Text ∷ k.OtherLayout ∷ []
 
 -- a global
 abbrev pub globals : List Kind
-globals = k.Global ∷ k.UsedGlobal ∷ []
+globals = k.Global ∷ k.UsedGlobal ∷ k.DebugGlobal ∷ []
+
+-- a comma, whatever follows it
+abbrev pub commas : List Kind
+commas = k.Comma ∷ k.MetaComma ∷ []
+
+-- `void`, whatever follows it
+abbrev pub voids : List Kind
+voids = k.Void ∷ k.VoidBeforeOperand ∷ []
 
 -- a metadata name, whatever follows it
 abbrev pub meta_names : List Kind
@@ -71,9 +79,9 @@ refused_attributes _ = k.External ∷ k.MetadataWord ∷ k.Target ∷ refused_wo
 
 -- every kind but brackets and the end of the text: what a skipped run holds
 abbrev pub all_but_brackets : List Kind
-all_but_brackets = k.Equals ∷ k.Comma ∷ k.Less ∷ k.Greater ∷ k.Vector ∷ k.Dots ∷ k.OtherMark ∷ k.Label ∷ k.Local ∷ k.LocalDefinition ∷ k.Global
-    ∷ k.UsedGlobal ∷ k.MetaName ∷ k.MetaDefinition ∷ k.MetaNumber ∷ k.Bang ∷ k.AttrNumber ∷ k.DebugRecord ∷ k.Text ∷ k.OtherLayout ∷ k.Bytes ∷ k.Float ∷ k.Negative
-    ∷ k.SmallPower ∷ k.Power ∷ k.Count ∷ k.GreatPower ∷ k.Great ∷ k.BitType ∷ k.IntType ∷ k.EmptyIntType ∷ k.WideIntType ∷ k.Ptr ∷ k.Void
+all_but_brackets = k.Equals ∷ k.Comma ∷ k.MetaComma ∷ k.Less ∷ k.Greater ∷ k.Vector ∷ k.Dots ∷ k.OtherMark ∷ k.Label ∷ k.Local ∷ k.LocalDefinition ∷ k.Global
+    ∷ k.UsedGlobal ∷ k.DebugGlobal ∷ k.MetaName ∷ k.MetaDefinition ∷ k.MetaNumber ∷ k.Bang ∷ k.AttrNumber ∷ k.DebugRecord ∷ k.Text ∷ k.OtherLayout ∷ k.Bytes ∷ k.Float ∷ k.Negative
+    ∷ k.SmallPower ∷ k.Power ∷ k.Count ∷ k.GreatPower ∷ k.Great ∷ k.BitType ∷ k.IntType ∷ k.EmptyIntType ∷ k.WideIntType ∷ k.Ptr ∷ k.Void ∷ k.VoidBeforeOperand
     ∷ k.LabelWord ∷ k.MetadataWord ∷ k.Target ∷ k.OtherType ∷ k.True ∷ k.False ∷ k.Null ∷ k.ZeroWord ∷ k.GetElementPtr ∷ k.SourceFilename
     ∷ k.Define ∷ k.Declare ∷ k.AttributesWord ∷ k.GlobalWord ∷ k.ConstantWord ∷ k.DataLayout ∷ k.Triple ∷ k.TypeWord ∷ k.OpaqueWord
     ∷ k.Distinct ∷ k.Section ∷ k.Align ∷ k.CallingConvention ∷ k.Word ∷ k.DollarWord ∷ k.HexWord ∷ k.External ∷ k.OtherWord ∷ k.Binary

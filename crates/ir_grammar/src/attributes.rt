@@ -5,6 +5,7 @@ ghost use Rattle.ir_grammar.specs.Grammar.{Gives, Reads, read};
 ghost use Rattle.ir_grammar.specs.Spelled.{store_of};
 ghost use Rattle.ir_grammar.specs.Attributes.{alignment, word_attribute, align_attribute, convention_attribute, text_attribute, attribute, attributes};
 
+use crate::words::{integers, texts};
 use crate::{Context, Failure, Kind, Reader, Terminal};
 
 /// Words that are attributes wherever one may stand, before them `$` words and `section`.
@@ -222,14 +223,7 @@ impl<'a> Reader<'a> {
         if self.next_is(Kind::OpenParen) {
             return self.in_parens(levels);
         }
-        self.take_among(&[
-            Kind::Count,
-            Kind::SmallPower,
-            Kind::Power,
-            Kind::Negative,
-            Kind::GreatPower,
-            Kind::Great,
-        ])?;
+        self.take_among(integers())?;
         Ok(())
     }
 
@@ -237,7 +231,7 @@ impl<'a> Reader<'a> {
     pub fn text(&mut self) -> Result<Terminal, Failure>
         ensures { Gives (λ t. (t, self.new.rest.now, store_of self.new.found)) result (take texts self.old.rest.now (store_of self.old.found)) }
     {
-        self.take_among(&[Kind::Text, Kind::OtherLayout])
+        self.take_among(texts())
     }
 
     /// string | string = string
@@ -267,7 +261,7 @@ impl<'a> Reader<'a> {
         if self.next_is(Kind::CallingConvention) {
             return self.convention_attribute(levels);
         }
-        if self.next_among(&[Kind::Text, Kind::OtherLayout]) {
+        if self.next_among(texts()) {
             return self.text_attribute(levels);
         }
         if self.next_is(Kind::AttrNumber) {

@@ -6,38 +6,11 @@ ghost use Rattle.ir_grammar.specs.Grammar.{Gives, Reads, read, with_front};
 ghost use Rattle.ir_grammar.specs.Spelled.{store_of, integer_of};
 ghost use Rattle.ir_grammar.specs.Constants.{integer_value, name_value, word_value, flag, flags, address_parens, address_value, value_rule, squared_constants, array_constant, braced_constants, struct_constant, packed_constant, constant_rule, typed_constant, comma_constant, more_elements, elements_rule, comma_index, indices, address_base, address_rule};
 
+use crate::words::{globals, integers, locals, refused_values};
 use crate::{
     Context, Failure, Kind, Reader, SpelledConstant, SpelledInteger, Terminal, TypedConstant,
     TypedIndex,
 };
-
-/// Any integer.
-const INTEGERS: [Kind; 6] = [
-    Kind::Count,
-    Kind::SmallPower,
-    Kind::Power,
-    Kind::Negative,
-    Kind::GreatPower,
-    Kind::Great,
-];
-
-/// Words and literals that are Unsupported where a value may stand.
-const REFUSED: [Kind; 14] = [
-    Kind::Float,
-    Kind::Binary,
-    Kind::BinaryRmw,
-    Kind::Icmp,
-    Kind::Cast,
-    Kind::Select,
-    Kind::ExtractValue,
-    Kind::External,
-    Kind::MetadataWord,
-    Kind::Target,
-    Kind::OtherWord,
-    Kind::OtherType,
-    Kind::LabelWord,
-    Kind::WideIntType,
-];
 
 impl Terminal {
     /// The integer that it spells.
@@ -57,7 +30,7 @@ impl<'a> Reader<'a> {
     fn integer_value(&mut self, levels: u32) -> Result<usize, Failure>
         ensures { Reads (λ n. n) result self.old self.new levels integer_value }
     {
-        let token = self.take_among(&INTEGERS)?;
+        let token = self.take_among(integers())?;
         self.add_constant(SpelledConstant::Integer(token.integer()))
     }
 
@@ -66,11 +39,11 @@ impl<'a> Reader<'a> {
     fn name_value(&mut self, levels: u32) -> Result<usize, Failure>
         ensures { Reads (λ n. n) result self.old self.new levels name_value }
     {
-        if self.next_among(&[Kind::Local, Kind::LocalDefinition]) {
-            let token = self.take_among(&[Kind::Local, Kind::LocalDefinition])?;
+        if self.next_among(locals()) {
+            let token = self.take_among(locals())?;
             return self.add_constant(SpelledConstant::Local(token.token));
         }
-        let token = self.take_among(&[Kind::Global, Kind::UsedGlobal])?;
+        let token = self.take_among(globals())?;
         self.add_constant(SpelledConstant::Global(token.token))
     }
 
@@ -111,7 +84,7 @@ impl<'a> Reader<'a> {
 
     /// flag*
     #[tactic(auto, using(crate::proofs::ConstantLists::flags_more, crate::proofs::ConstantLists::flags_done, crate::proofs::ConstantLists::flags_failed, crate::proofs::ConstantLists::flag_takes))]
-    fn flags(&mut self, levels: u32) -> Result<(), Failure>
+    pub fn flags(&mut self, levels: u32) -> Result<(), Failure>
         ensures { Reads (λ x. x) result self.old self.new levels flags }
     {
         while self.next_among(&[Kind::Flag, Kind::InRange]) {
@@ -123,7 +96,7 @@ impl<'a> Reader<'a> {
     /// ( type , ptr const (, type integer)* )
     #[cycle(constants)]
     #[tactic(auto, unfolding(crate::specs::Constants::address_parens), using(crate::proofs::Levels::inside_deeper))]
-    fn address_parens(&mut self, levels: u32) -> Result<usize, Failure>
+    pub fn address_parens(&mut self, levels: u32) -> Result<usize, Failure>
         ensures { Reads (λ n. n) result self.old self.new levels address_parens }
     {
         let at = self.rest.len();
@@ -151,7 +124,7 @@ impl<'a> Reader<'a> {
     pub fn value(&mut self, levels: u32) -> Result<usize, Failure>
         ensures { Reads (λ n. n) result self.old self.new levels value_rule }
     {
-        if self.next_among(&INTEGERS) {
+        if self.next_among(integers()) {
             return self.integer_value(levels);
         }
         if self.next_among(&[
@@ -159,6 +132,7 @@ impl<'a> Reader<'a> {
             Kind::LocalDefinition,
             Kind::Global,
             Kind::UsedGlobal,
+            Kind::DebugGlobal,
         ]) {
             return self.name_value(levels);
         }
@@ -168,7 +142,7 @@ impl<'a> Reader<'a> {
         if self.next_is(Kind::GetElementPtr) {
             return self.address_value(levels);
         }
-        Err(self.refuse(&REFUSED))
+        Err(self.refuse(refused_values()))
     }
 
     /// { elems }
@@ -270,7 +244,7 @@ impl<'a> Reader<'a> {
     fn comma_constant(&mut self, levels: u32) -> Result<TypedConstant, Failure>
         ensures { Reads (λ v. v) result self.old self.new levels comma_constant }
     {
-        self.take(Kind::Comma)?;
+        self.comma()?;
         self.typed_constant(levels)
     }
 
@@ -286,7 +260,7 @@ impl<'a> Reader<'a> {
     {
         let mut elements = Vec::new(self.alloc);
         elements.push(first)?;
-        while self.next_is(Kind::Comma) {
+        while self.comma_is_next() {
             let next = self.comma_constant(levels)?;
             elements.push(next)?;
         }
@@ -320,9 +294,9 @@ impl<'a> Reader<'a> {
     fn comma_index(&mut self, levels: u32) -> Result<TypedIndex, Failure>
         ensures { Reads (λ v. v) result self.old self.new levels comma_index }
     {
-        self.take(Kind::Comma)?;
+        self.comma()?;
         let ty = self.ty(Context::Plain, levels)?;
-        let integer = self.take_among(&INTEGERS)?;
+        let integer = self.take_among(integers())?;
         Ok(TypedIndex {
             ty,
             value: integer.integer(),
@@ -335,7 +309,7 @@ impl<'a> Reader<'a> {
         ensures { Reads (λ v. v.items) result self.old self.new levels indices }
     {
         let mut found = Vec::new(self.alloc);
-        while self.next_is(Kind::Comma) {
+        while self.comma_is_next() {
             let next = self.comma_index(levels)?;
             found.push(next)?;
         }
@@ -349,7 +323,7 @@ impl<'a> Reader<'a> {
         ensures { Reads (λ v. v) result self.old self.new levels address_base }
     {
         let of = self.ty(Context::Plain, levels)?;
-        self.take(Kind::Comma)?;
+        self.comma()?;
         self.ptr_word(levels)?;
         let base = self.constant(levels)?;
         Ok((of, base))

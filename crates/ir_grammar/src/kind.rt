@@ -10,6 +10,8 @@ pub enum Kind {
     // Marks.
     Equals,
     Comma,
+    /// A comma before a metadata name.
+    MetaComma,
     OpenParen,
     CloseParen,
     OpenSquare,
@@ -32,6 +34,8 @@ pub enum Kind {
     Global,
     /// `@llvm.used` or `@llvm.compiler.used`.
     UsedGlobal,
+    /// A global whose name begins with `llvm.dbg.`.
+    DebugGlobal,
     MetaName,
     /// A metadata name before `=`.
     MetaDefinition,
@@ -67,6 +71,9 @@ pub enum Kind {
     WideIntType,
     Ptr,
     Void,
+    /// `void` before a local that no `=` follows, or before `getelementptr` with `(` or `inrange` after its flags: behind
+    /// `ret` an operand follows.
+    VoidBeforeOperand,
     /// `label`
     LabelWord,
     /// `metadata`

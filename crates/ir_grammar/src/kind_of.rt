@@ -2,12 +2,12 @@ ghost use Rattle.std.specs.Prelude.{◌≡◌, drop, map, All, IfOk};
 ghost use Rattle.std.specs.Char.{digit_value, is_ascii_digit};
 ghost use Rattle.std.specs.List.{list_all};
 ghost use Rattle.ir_grammar.specs.SoundStore.{IsInRange};
-ghost use Rattle.ir_grammar.specs.KindOf.{kind_in, type_words, item_words, body_words, other_words, mark_table, is_int_type, int_kind, number_of, other_word, word_kind, count_kind, digits_of, integer_kind, mark_kind, is_token, integer_follows, equals_follows, local_kind, meta_name_kind, global_kind, text_kind, token_kind, token_number, terminal_of, terminals_of, end_of_text, text_of};
+ghost use Rattle.ir_grammar.specs.KindOf.{kind_in, type_words, item_words, body_words, other_words, mark_table, is_int_type, int_kind, number_of, other_word, word_kind, count_kind, digits_of, integer_kind, mark_kind, is_token, integer_follows, equals_follows, local_kind, meta_name_kind, meta_name_follows, operand_follows, parens_follow, opens_parens, word_of, kind_before, global_kind, text_kind, token_kind, token_number, terminal_of, terminals_of, end_of_text, text_of};
 
 use crate::{Kind, Terminal};
 use hw_base::OutOfMemory;
 use ir_core::{Place, Token, TokenKind, Tokens};
-use ir_text::{is_layout_taken, is_used_list};
+use ir_text::{is_debug_function, is_layout_taken, is_used_list};
 use std::alloc::Global;
 
 /// Words of types and values.
@@ -429,13 +429,16 @@ fn meta_name_kind(equals: bool) -> Kind
     }
 }
 
-fn global_kind(text: &[u8]) -> Kind
-    ensures { result ≡ global_kind text.now }
+fn global_kind(alloc: Global, text: &[u8]) -> Result<Kind, OutOfMemory>
+    ensures { IfOk result (λ kind. kind ≡ global_kind text.now) }
 {
     if is_used_list(text) {
-        Kind::UsedGlobal
+        return Ok(Kind::UsedGlobal);
+    }
+    if is_debug_function(alloc, text)? {
+        Ok(Kind::DebugGlobal)
     } else {
-        Kind::Global
+        Ok(Kind::Global)
     }
 }
 
@@ -464,7 +467,7 @@ fn token_kind(
         TokenKind::Integer => Ok(integer_kind(text)),
         TokenKind::Float => Ok(Kind::Float),
         TokenKind::Local => Ok(local_kind(equals)),
-        TokenKind::Global => Ok(global_kind(text)),
+        TokenKind::Global => global_kind(alloc, text),
         TokenKind::MetaName => Ok(meta_name_kind(equals)),
         TokenKind::MetaNumber => Ok(Kind::MetaNumber),
         TokenKind::Bang => Ok(Kind::Bang),
@@ -531,6 +534,84 @@ fn equals_follows(tokens: &Tokens, behind: &[Token]) -> bool
     }
 }
 
+/// The kind that a token has as a word, and that of the end of the text for a token that is no word.
+fn word_of(tokens: &Tokens, token: &Token) -> Kind
+    ensures { result ≡ word_of tokens.now.source token.now }
+{
+    if is_token(TokenKind::Word, token.kind) {
+        word_kind(tokens.text_of(token))
+    } else {
+        Kind::End
+    }
+}
+
+fn opens_parens(tokens: &Tokens, token: &Token) -> bool
+    ensures { result ≡ opens_parens tokens.now.source token.now }
+{
+    is_token(TokenKind::Mark, token.kind) && tokens.text_of(token) == "(".as_bytes()
+}
+
+/// Whether `(` or `inrange` comes after flags.
+fn parens_follow(tokens: &Tokens, mut behind: &[Token]) -> bool
+    ensures { result ≡ parens_follow tokens.now.source behind.now }
+{
+    while let [token, rest @ ..] = behind {
+        let word = word_of(tokens, token);
+        if !word.is(Kind::Flag) {
+            return word.is(Kind::InRange) || opens_parens(tokens, token);
+        }
+        behind = rest;
+    }
+    false
+}
+
+/// Whether a local comes next that is no name of a result, or a `getelementptr` that is a constant.
+fn operand_follows(tokens: &Tokens, behind: &[Token]) -> bool
+    ensures { result ≡ operand_follows tokens.now.source behind.now }
+{
+    match behind {
+        [] => false,
+        [next, rest @ ..] => {
+            let is_register = is_token(TokenKind::Local, next.kind)
+                && !equals_follows(tokens, rest);
+            is_register
+                || word_of(tokens, next).is(Kind::GetElementPtr) && parens_follow(tokens, rest)
+        }
+    }
+}
+
+/// Whether a metadata name comes next.
+fn meta_name_follows(behind: &[Token]) -> bool
+    ensures { result ≡ meta_name_follows behind.now }
+{
+    match behind {
+        [] => false,
+        [next, ..] => is_token(TokenKind::MetaName, next.kind),
+    }
+}
+
+/// The kind of a token that has this kind by itself, before these tokens.
+#[tactic(auto, unfolding(crate::specs::KindOf::kind_before))]
+fn kind_before(tokens: &Tokens, behind: &[Token], kind: Kind) -> Kind
+    ensures { result ≡ kind_before tokens.now.source behind.now kind }
+{
+    if kind.is(Kind::Comma) {
+        return if meta_name_follows(behind) {
+            Kind::MetaComma
+        } else {
+            kind
+        };
+    }
+    if kind.is(Kind::Void) {
+        return if operand_follows(tokens, behind) {
+            Kind::VoidBeforeOperand
+        } else {
+            kind
+        };
+    }
+    kind
+}
+
 /// A token as the grammar sees it, before these.
 fn terminal_of(
     alloc: Global,
@@ -543,8 +624,9 @@ fn terminal_of(
     let text = tokens.text_of(token);
     let equals = equals_follows(tokens, behind);
     let integer = integer_follows(behind);
+    let kind = token_kind(alloc, token.kind, text, equals, integer)?;
     Ok(Terminal {
-        kind: token_kind(alloc, token.kind, text, equals, integer)?,
+        kind: kind_before(tokens, behind, kind),
         number: token_number(token.kind, text),
         token: *token,
     })

@@ -7,16 +7,19 @@ ghost use Rattle.ir_grammar.specs.Conditions.{is_clear, goes_on, has, IsWellForm
 ghost use Rattle.ir_grammar.specs.Types.{type_rule};
 ghost use Rattle.ir_grammar.specs.Constants.{constant_rule};
 ghost use Rattle.ir_grammar.specs.Attributes.{attribute};
-ghost use Rattle.ir_grammar.specs.Laws.{ReadIsDerived, DerivedIsRead, BeforeFaultBegins, FaultEnds, FaultIsNoWhole};
+ghost use Rattle.ir_grammar.specs.Laws.{ReadIsDerived, DerivedIsRead, BeforeFaultBegins, FaultEnds, FaultIsNoWhole, NestingGoesOn, TooFewLevels};
 
 /// The law of reading: by a rule of the shared grammar exactly what the grammar derives is read, with the value and the
-/// store of the derivation, and a fault stands at the first token with which nothing is derived.
+/// store of the derivation, and a fault is at the first token with which nothing is derived. A fault of nesting is at the
+/// bracket with which something is derived, but only with more levels.
 pub fn reading_is_deriving()
     ensures sound { ReadIsDerived }
     ensures complete { DerivedIsRead }
     ensures before { BeforeFaultBegins }
     ensures at { FaultEnds }
     ensures whole { FaultIsNoWhole }
+    ensures nesting { NestingGoesOn }
+    ensures levels { TooFewLevels }
 {}
 
 /// The conditions under which the law of reading says all: they hold of the rule of each name, and of types, constants and

@@ -16,17 +16,27 @@ mod parameters;
 mod reader;
 mod skipped;
 mod spelled;
+mod spelled_bodies;
 mod terminal;
 mod types;
+mod words;
 
 pub use context::Context;
 pub use debug_laws::kept_nodes_are_resolved;
 pub use kind::Kind;
 pub use kind_of::terminals;
 pub use laws::{one_token_ahead_decides, reading_is_deriving};
-pub use reader::{Reader, Spellings};
+pub use parameters::token_in;
+pub use reader::{Reader, SpelledBodies, Spellings};
 pub use spelled::{
     SpelledConstant, SpelledInteger, SpelledItem, SpelledParameter, SpelledType, TypedConstant,
     TypedIndex,
 };
+pub use spelled_bodies::{
+    SpelledAttachment, SpelledBlock, SpelledCase, SpelledIncoming, SpelledInstruction,
+    SpelledOperand, SpelledOperation, TypedOperand,
+};
 pub use terminal::{Failure, Flaw, Terminal};
+pub use words::{
+    commas, globals, integers, locals, meta_names, refused_types, refused_values, texts, voids,
+};

@@ -1,12 +1,16 @@
 ghost use Rattle.std.specs.Prelude.{◌≡◌, [], ◌∷◌, length, if◌then◌else◌, Ok};
 ghost use Rattle.ir_grammar.specs.declared.terminal.Failure.TheVariants.{Flawed};
 ghost use Rattle.ir_grammar.specs.Reading.{starts, take, bad, unsupported};
+ghost use Rattle.ir_grammar.specs.Words.{commas};
 ghost use Rattle.ir_grammar.specs.Grammar.{Gives, deeper};
-ghost use Rattle.ir_grammar.specs.Spelled.{store_of, added, with_rest, add_type, add_struct_type, add_constant, add_array, add_struct, add_address, add_item, add_declare};
+ghost use Rattle.ir_grammar.specs.BodyStore.{no_bodies};
+ghost use Rattle.ir_grammar.specs.Spelled.{store_of, bodies_of, added, with_rest, add_type, add_struct_type, add_constant, add_array, add_struct, add_address, add_item, add_declare};
 
+use crate::words::commas;
 use crate::{
-    Failure, Flaw, Kind, SpelledConstant, SpelledItem, SpelledParameter, SpelledType, Terminal,
-    TypedConstant, TypedIndex,
+    Failure, Flaw, Kind, SpelledAttachment, SpelledBlock, SpelledCase, SpelledConstant,
+    SpelledIncoming, SpelledInstruction, SpelledItem, SpelledParameter, SpelledType, Terminal,
+    TypedConstant, TypedIndex, TypedOperand,
 };
 use ir_core::{Fault, Limit, Token};
 use std::alloc::Global;
@@ -26,6 +30,39 @@ pub struct Spellings {
     pub parameters: Vec<SpelledParameter>,
     /// The items in order of the text.
     pub items: Vec<SpelledItem>,
+    /// What is in the bodies of functions.
+    pub bodies: SpelledBodies,
+}
+
+/// What was read so far of the bodies of functions. The number of each is its index.
+#[derive(Drop)]
+pub struct SpelledBodies {
+    /// Arguments of calls, and indices.
+    pub operands: Vec<TypedOperand>,
+    /// Entries of phis.
+    pub incoming: Vec<SpelledIncoming>,
+    /// Cases of switches.
+    pub cases: Vec<SpelledCase>,
+    pub attachments: Vec<SpelledAttachment>,
+    /// The instructions and terminators, block after block.
+    pub instructions: Vec<SpelledInstruction>,
+    pub blocks: Vec<SpelledBlock>,
+}
+
+impl SpelledBodies {
+    /// Nothing yet. It takes no memory.
+    pub fn new(alloc: Global) -> SpelledBodies
+        ensures { bodies_of result ≡ no_bodies }
+    {
+        SpelledBodies {
+            operands: Vec::new(alloc),
+            incoming: Vec::new(alloc),
+            cases: Vec::new(alloc),
+            attachments: Vec::new(alloc),
+            instructions: Vec::new(alloc),
+            blocks: Vec::new(alloc),
+        }
+    }
 }
 
 impl Spellings {
@@ -38,6 +75,7 @@ impl Spellings {
         ensures indices { (store_of result).indices ≡ [] }
         ensures parameters { (store_of result).parameters ≡ [] }
         ensures items { (store_of result).items ≡ [] }
+        ensures bodies { (store_of result).bodies ≡ no_bodies }
     {
         Spellings {
             types: Vec::new(alloc),
@@ -47,6 +85,7 @@ impl Spellings {
             indices: Vec::new(alloc),
             parameters: Vec::new(alloc),
             items: Vec::new(alloc),
+            bodies: SpelledBodies::new(alloc),
         }
     }
 }
@@ -133,6 +172,20 @@ impl<'a> Reader<'a> {
         ensures { Gives (λ t. (t, self.new.rest.now, store_of self.new.found)) result (take (kind ∷ []) self.old.rest.now (store_of self.old.found)) }
     {
         self.take_among(&[kind])
+    }
+
+    /// Whether a comma comes next, whatever follows it.
+    pub fn comma_is_next(&self) -> bool
+        ensures { result ≡ starts commas self.now.rest.now }
+    {
+        self.next_among(commas())
+    }
+
+    /// Takes a comma, whatever follows it.
+    pub fn comma(&mut self) -> Result<Terminal, Failure>
+        ensures { Gives (λ t. (t, self.new.rest.now, store_of self.new.found)) result (take commas self.old.rest.now (store_of self.old.found)) }
+    {
+        self.take_among(commas())
     }
 
     /// One level fewer, behind a bracket with `at` tokens from it on; TooLarge where no level is left.

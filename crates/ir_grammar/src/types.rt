@@ -3,36 +3,18 @@ ghost use Rattle.ir_grammar.specs.Reading.{starts, first};
 ghost use Rattle.ir_grammar.specs.Words.{refused_types};
 ghost use Rattle.ir_grammar.specs.Grammar.{Gives, Reads, read, with_front};
 ghost use Rattle.ir_grammar.specs.Spelled.{store_of};
-ghost use Rattle.ir_grammar.specs.Types.{int_type, named_type, array_type, braced_types, struct_type, packed_type, other_type, type_rule, array_rule, comma_type, more_types, types_rule, ptr_word};
+ghost use Rattle.ir_grammar.specs.Types.{int_type, named_type, array_type, braced_types, struct_type, packed_type, other_type, solid_type, type_rule, array_rule, comma_type, more_types, types_rule, ptr_word};
 
+use crate::words::{locals, refused_types, voids};
 use crate::{Context, Failure, Kind, Reader, SpelledType, Terminal};
 
-/// Words that are Unsupported where a type may stand, outside a declare.
-const REFUSED: [Kind; 7] = [
-    Kind::External,
-    Kind::MetadataWord,
-    Kind::Target,
-    Kind::OtherWord,
-    Kind::OtherType,
-    Kind::LabelWord,
-    Kind::WideIntType,
-];
-
-/// Words that are Unsupported where a type may stand in a declare.
-const REFUSED_IN_DECLARE: [Kind; 5] = [
-    Kind::Target,
-    Kind::OtherWord,
-    Kind::OtherType,
-    Kind::LabelWord,
-    Kind::WideIntType,
-];
-
 /// The kinds that a type begins with in any place.
-const TYPES: [Kind; 9] = [
+const TYPES: [Kind; 10] = [
     Kind::IntType,
     Kind::BitType,
     Kind::Ptr,
     Kind::Void,
+    Kind::VoidBeforeOperand,
     Kind::OpenSquare,
     Kind::OpenBrace,
     Kind::Less,
@@ -40,23 +22,9 @@ const TYPES: [Kind; 9] = [
     Kind::LocalDefinition,
 ];
 
-/// Words that are Unsupported where a type may stand.
-pub(crate) fn refused_types(context: Context) -> &'static [Kind]
-    ensures { result.now ≡ refused_types context }
-{
-    match context {
-        Context::Plain => &REFUSED,
-        Context::Global => &REFUSED,
-        Context::GlobalTail => &REFUSED,
-        Context::Declare => &REFUSED_IN_DECLARE,
-        Context::Parameter => &REFUSED,
-        Context::DeclareTail => &REFUSED_IN_DECLARE,
-    }
-}
-
 impl<'a> Reader<'a> {
     /// Whether a type is read at the next token, if only to refuse it.
-    #[tactic(auto, unfolding(crate::specs::Types::type_rule, crate::specs::Types::int_type, crate::specs::Types::named_type, crate::specs::Types::array_type, crate::specs::Types::braced_types, crate::specs::Types::struct_type, crate::specs::Types::packed_type, crate::specs::Types::other_type), using(crate::proofs::TypeKinds::type_kinds))]
+    #[tactic(auto, unfolding(crate::specs::Types::type_rule, crate::specs::Types::solid_type, crate::specs::Types::int_type, crate::specs::Types::named_type, crate::specs::Types::array_type, crate::specs::Types::braced_types, crate::specs::Types::struct_type, crate::specs::Types::packed_type, crate::specs::Types::other_type), using(crate::proofs::TypeKinds::type_kinds))]
     pub fn starts_type(&self, context: Context) -> bool
         ensures { result ≡ starts (first (type_rule context)) self.now.rest.now }
     {
@@ -84,7 +52,7 @@ impl<'a> Reader<'a> {
     fn named_type(&mut self, levels: u32) -> Result<usize, Failure>
         ensures { Reads (λ n. n) result self.old self.new levels named_type }
     {
-        let token = self.take_among(&[Kind::Local, Kind::LocalDefinition])?;
+        let token = self.take_among(locals())?;
         self.add_type(SpelledType::Named(token.token))
     }
 
@@ -168,9 +136,22 @@ impl<'a> Reader<'a> {
 
     /// iN | ptr | void | [ integer x type ] | { types } | < { types } > | local
     #[cycle(types)]
-    #[tactic(auto, unfolding(crate::specs::Types::type_rule, crate::specs::Types::int_type, crate::specs::Types::named_type, crate::specs::Types::array_type, crate::specs::Types::struct_type, crate::specs::Types::packed_type, crate::specs::Types::braced_types))]
+    #[tactic(auto, unfolding(crate::specs::Types::type_rule))]
     pub fn ty(&mut self, context: Context, levels: u32) -> Result<usize, Failure>
         ensures { Reads (λ n. n) result self.old self.new levels (type_rule context) }
+    {
+        if self.next_among(voids()) {
+            self.take_among(voids())?;
+            return self.add_type(SpelledType::Void);
+        }
+        self.solid_type(context, levels)
+    }
+
+    /// iN | ptr | [ integer x type ] | { types } | < { types } > | local
+    #[cycle(types)]
+    #[tactic(auto, unfolding(crate::specs::Types::solid_type, crate::specs::Types::int_type, crate::specs::Types::named_type, crate::specs::Types::array_type, crate::specs::Types::struct_type, crate::specs::Types::packed_type, crate::specs::Types::braced_types))]
+    pub fn solid_type(&mut self, context: Context, levels: u32) -> Result<usize, Failure>
+        ensures { Reads (λ n. n) result self.old self.new levels (solid_type context) }
     {
         if self.next_among(&[Kind::IntType, Kind::BitType]) {
             return self.int_type(levels);
@@ -178,10 +159,6 @@ impl<'a> Reader<'a> {
         if self.next_is(Kind::Ptr) {
             self.take(Kind::Ptr)?;
             return self.add_type(SpelledType::Ptr);
-        }
-        if self.next_is(Kind::Void) {
-            self.take(Kind::Void)?;
-            return self.add_type(SpelledType::Void);
         }
         if self.next_is(Kind::OpenSquare) {
             return self.array_type(context, levels);
@@ -192,7 +169,7 @@ impl<'a> Reader<'a> {
         if self.next_is(Kind::Less) {
             return self.packed_type(context, levels);
         }
-        if self.next_among(&[Kind::Local, Kind::LocalDefinition]) {
+        if self.next_among(locals()) {
             return self.named_type(levels);
         }
         self.other_type(context, levels)
@@ -204,7 +181,7 @@ impl<'a> Reader<'a> {
     fn comma_type(&mut self, context: Context, levels: u32) -> Result<usize, Failure>
         ensures { Reads (λ n. n) result self.old self.new levels (comma_type context) }
     {
-        self.take(Kind::Comma)?;
+        self.comma()?;
         self.ty(context, levels)
     }
 
@@ -221,7 +198,7 @@ impl<'a> Reader<'a> {
     {
         let mut types = Vec::new(self.alloc);
         types.push(first)?;
-        while self.next_is(Kind::Comma) {
+        while self.comma_is_next() {
             let next = self.comma_type(context, levels)?;
             types.push(next)?;
         }

@@ -19,16 +19,16 @@ use Rattle.ir_grammar.proofs.KindSets.{starts-append}
 use Rattle.ir_read_items.specs.Items.{source_filename, target, attribute_group, type_item, attachment, comma_part, global_tail, global_item, used_item, attachments, declare_attachment, declare_part, declare_tail, declare_head, declare_item, node_item, list_item, item, free_items, next_items, declare_group, declare_groups}
 
 pub tail_more : (levels : ℕ) (ts : List Terminal) (st : Store) (x : Unit {0} × List Terminal × Store)
-    → starts (k.Comma ∷ []) ts ≡ true → read levels comma_part ts st ≡ Ok x → read levels global_tail ts st ≡ read levels global_tail x.1 x.2
+    → starts (k.Comma ∷ k.MetaComma ∷ []) ts ≡ true → read levels comma_part ts st ≡ Ok x → read levels global_tail ts st ≡ read levels global_tail x.1 x.2
 unfolding global_tail
 tail_more levels ts st x h e = skip_more shared production levels nothing comma_part ts st x (unfold comma_part in refl) (unfold comma_part in h) e
 
-pub tail_done : (levels : ℕ) (ts : List Terminal) (st : Store) → starts (k.Comma ∷ []) ts ≡ false → read levels global_tail ts st ≡ Ok (tt, ts, st)
+pub tail_done : (levels : ℕ) (ts : List Terminal) (st : Store) → starts (k.Comma ∷ k.MetaComma ∷ []) ts ≡ false → read levels global_tail ts st ≡ Ok (tt, ts, st)
 unfolding global_tail
 tail_done levels ts st h = skip_done shared production levels nothing comma_part ts st (unfold comma_part in h)
 
 pub tail_failed : (levels : ℕ) (ts : List Terminal) (st : Store) (e : Flaw)
-    → starts (k.Comma ∷ []) ts ≡ true → read levels comma_part ts st ≡ Err e → read levels global_tail ts st ≡ Err e
+    → starts (k.Comma ∷ k.MetaComma ∷ []) ts ≡ true → read levels comma_part ts st ≡ Err e → read levels global_tail ts st ≡ Err e
 unfolding global_tail
 tail_failed levels ts st e h q = skip_failed shared production levels nothing comma_part ts st e (unfold comma_part in h) q
 
@@ -88,14 +88,14 @@ regroup false false true d = refl
 regroup false false false d = refl
 
 abbrev item_starts : List Kind
-item_starts = k.SourceFilename ∷ k.Target ∷ k.Local ∷ k.LocalDefinition ∷ k.Global ∷ k.UsedGlobal ∷ k.AttributesWord ∷ []
+item_starts = k.SourceFilename ∷ k.Target ∷ k.Local ∷ k.LocalDefinition ∷ k.Global ∷ k.DebugGlobal ∷ k.UsedGlobal ∷ k.AttributesWord ∷ []
 
 abbrev item_refused : List Kind
 item_refused = k.Define ∷ k.External ∷ k.MetadataWord ∷ k.DollarWord ∷ k.OtherWord ∷ k.OtherType ∷ k.LabelWord ∷ k.WideIntType ∷ []
 
 -- the kinds that an item is read at
 pub item_kinds : (names : List Kind) (ts : List Terminal) → starts (first (item names)) ts
-    ≡ (((starts (k.SourceFilename ∷ k.Target ∷ k.Local ∷ k.LocalDefinition ∷ k.Global ∷ k.UsedGlobal ∷ k.AttributesWord ∷ []) ts || starts (k.MetaNumber ∷ []) ts)
+    ≡ (((starts (k.SourceFilename ∷ k.Target ∷ k.Local ∷ k.LocalDefinition ∷ k.Global ∷ k.DebugGlobal ∷ k.UsedGlobal ∷ k.AttributesWord ∷ []) ts || starts (k.MetaNumber ∷ []) ts)
     || starts names ts) || starts (k.Define ∷ k.External ∷ k.MetadataWord ∷ k.DollarWord ∷ k.OtherWord ∷ k.OtherType ∷ k.LabelWord ∷ k.WideIntType ∷ []) ts)
 unfolding item source_filename target type_item global_item used_item attribute_group node_item list_item
 item_kinds names ts =

@@ -8,7 +8,7 @@ use Rattle.ir_grammar.specs.declared.spelled.SpelledItem.{SpelledItem}
 use Rattle.ir_grammar.specs.declared.spelled.SpelledItem.TheVariants as items
 use Rattle.ir_grammar.specs.Kinds.{is_same}
 use Rattle.ir_grammar.specs.Rules.{Sort, nothing, token, base, pair, list, Value, one, ◌⨾◌, optional, many, act, the, gone, ◌▷◌}
-use Rattle.ir_grammar.specs.Words.{texts, meta_names, locals}
+use Rattle.ir_grammar.specs.Words.{texts, meta_names, locals, commas}
 use Rattle.ir_grammar.specs.Names.{Base, number, constant, parameter, shared, Production}
 use Rattle.ir_grammar.specs.Spelled.{Store, add_type, add_item}
 use Rattle.ir_grammar.specs.Skipped.{in_squares, in_braces, in_parens}
@@ -98,7 +98,7 @@ global_part_kept = (section_kept, (attachment_kept, attribute_kept at.GlobalTail
 
 comma_part_kept : Spares nothing comma_part 1
 unfolding comma_part
-comma_part_kept = then_kept (the k.Comma) global_part 1 8 1 (omega arith) global_part_kept (omega arith)
+comma_part_kept = then_kept (one commas) global_part 1 8 1 (omega arith) global_part_kept (omega arith)
 
 tail_kept : Spares nothing global_tail 0
 unfolding global_tail
@@ -111,7 +111,7 @@ global_value_kept = first_kept constant_rule global_tail 2 2 0 constant_kept tai
 global_kept : Spares nothing global_item 1
 unfolding global_item
 global_kept =
-    item_kept (the k.Global ⨾ (global_head ⨾ global_value)) (λ v. items.Global (v.0).token (is_same (((v.1).0).0).kind k.ConstantWord) (((v.1).0).1) ((v.1).1)) (λ v st h. (((h.1).0).1, (h.1).1))
+    item_kept (one (k.Global ∷ k.DebugGlobal ∷ []) ⨾ (global_head ⨾ global_value)) (λ v. items.Global (v.0).token (is_same (((v.1).0).0).kind k.ConstantWord) (((v.1).0).1) ((v.1).1)) (λ v st h. (((h.1).0).1, (h.1).1))
     (8, 8, omega arith, (8, 2, head_kept, global_value_kept, omega arith), omega arith)
 
 packed_any_kept : Spares nothing packed_any 8
@@ -153,7 +153,7 @@ declare_head_kept =
 
 declare_parameters_kept : Spares (list (base parameter)) declare_parameters 16
 unfolding declare_parameters
-declare_parameters_kept = first_kept parameters declare_tail 16 16 0 parameters_kept declare_tail_kept (omega arith)
+declare_parameters_kept = first_kept (parameters at.Declare) declare_tail 16 16 0 (parameters_kept at.Declare) declare_tail_kept (omega arith)
 
 declare_kept : Spares nothing declare_item 1
 unfolding declare_item

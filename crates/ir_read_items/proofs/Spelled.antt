@@ -21,7 +21,7 @@ use Rattle.ir_grammar.proofs.WellFormed.{well_formed}
 use Rattle.ir_grammar.proofs.Kept.{Each, each_of_all, kept}
 use Rattle.ir_grammar.proofs.Ranged.{text_has_no_end}
 use Rattle.ir_grammar.proofs.SoundSteps.{reading}
-use Rattle.ir_grammar.proofs.SharedKept.{names_kept}
+use Rattle.ir_grammar.proofs.NamesKept.{names_kept}
 use Rattle.ir_read_items.specs.Items.{module_rule, declare_groups}
 use Rattle.ir_read_items.specs.ItemReading.{nothing_read, spelled}
 use Rattle.ir_read_items.specs.ItemLaws.{IsModule}
@@ -54,6 +54,7 @@ nothing_sound = record {
   indices = All-nil _;
   parameters = All-nil _;
   items = All-nil _;
+  bodies = record { operands = All-nil _; incoming = All-nil _; cases = All-nil _; instructions = All-nil _; blocks = All-nil _ };
 }
 
 each_front : {A : Type 0} (P : A → Type 0) (xs ys : List A) → Each P (xs ++ ys) → Each P xs

@@ -33,6 +33,17 @@ abbrev pub BeforeFaultBegins : Type 0
 BeforeFaultBegins = (tokens : List Terminal) (e : Flaw) → spelled tokens ≡ Err e
     → (front : List Terminal) × (rest : List Terminal) × (tokens ≡ front ++ rest) × (length rest ≡ e.left) × Begins shared production nothing module_rule front nothing_read
 
+-- a fault of Nesting is at a bracket that goes on, in a module of more levels
+abbrev pub NestingGoesOn : Type 0
+NestingGoesOn = (front : List Terminal) (token : Terminal) (rest : List Terminal) (e : Flaw)
+    → spelled (front ++ token ∷ rest) ≡ Err e → e.left ≡ suc (length rest) → e.fault ≡ TooLarge Nesting
+    → Begins shared production nothing module_rule (front ++ token ∷ []) nothing_read
+
+-- with the token at any fault there is no module of at most so many levels
+abbrev pub TooFewLevels : Type 0
+TooFewLevels = (front : List Terminal) (token : Terminal) (rest : List Terminal) (e : Flaw)
+    → spelled (front ++ token ∷ rest) ≡ Err e → e.left ≡ suc (length rest) → (more : List Terminal) (store : Store) → IsModule nesting_limit (front ++ token ∷ more) store → ⊥
+
 -- with the token at a fault they begin none, of any depth; a fault of Nesting aside
 abbrev pub FaultEnds : Type 0
 FaultEnds = (front : List Terminal) (token : Terminal) (rest : List Terminal) (e : Flaw)

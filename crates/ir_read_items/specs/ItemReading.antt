@@ -4,6 +4,7 @@ use Rattle.ir_grammar.specs.declared.terminal.Terminal.{Terminal}
 use Rattle.ir_grammar.specs.declared.terminal.Flaw.{Flaw}
 use Rattle.ir_grammar.specs.declared.terminal.Failure.{Failure}
 use Rattle.ir_grammar.specs.declared.reader.Spellings.{Spellings}
+use Rattle.ir_grammar.specs.BodyStore.{no_bodies}
 use Rattle.ir_grammar.specs.Reading.{◌>>=◌}
 use Rattle.ir_grammar.specs.Spelled.{Store, store_of}
 use Rattle.ir_grammar.specs.Grammar.{Gives, read, nesting_limit}
@@ -11,7 +12,7 @@ use Rattle.ir_read_items.specs.Items.{module_rule}
 
 -- nothing yet
 abbrev pub nothing_read : Store
-nothing_read = record { types = []; fields = []; constants = []; elements = []; indices = []; parameters = []; items = [] }
+nothing_read = record { types = []; fields = []; constants = []; elements = []; indices = []; parameters = []; items = []; bodies = no_bodies }
 
 -- the whole text read by the grammar: what it spells, or the flaw
 abbrev pub spelled : List Terminal → Result Store Flaw

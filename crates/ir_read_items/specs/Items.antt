@@ -9,7 +9,7 @@ use Rattle.ir_grammar.specs.declared.spelled.SpelledItem.TheVariants as items
 use Rattle.ir_grammar.specs.Kinds.{is_same}
 use Rattle.ir_grammar.specs.Rules.{token, base, pair, list, nothing, one, refused, ◌⨾◌, ◌∣◌, optional, many, act, the, gone, ◌▷◌, ◌◁◌}
 use Rattle.ir_grammar.specs.Names.{Production, number, constant, parameter}
-use Rattle.ir_grammar.specs.Words.{texts, globals, meta_names, locals, refused_words}
+use Rattle.ir_grammar.specs.Words.{texts, globals, meta_names, locals, commas, refused_words}
 use Rattle.ir_grammar.specs.Spelled.{add_type, add_item, add_declare}
 use Rattle.ir_grammar.specs.Skipped.{in_squares, in_braces, in_parens}
 use Rattle.ir_grammar.specs.Types.{type_rule}
@@ -79,7 +79,7 @@ global_part = section ∣ attachment ∣ attribute at.GlobalTail
 
 -- , section string | , metaname metanum | , attr
 unfoldable pub comma_part : Production nothing
-comma_part = the k.Comma ▷ global_part
+comma_part = one commas ▷ global_part
 
 -- gtail*
 unfoldable pub global_tail : Production nothing
@@ -92,7 +92,7 @@ global_value = constant_rule ◁ global_tail
 -- global = attr* (global | constant) type const gtail*
 unfoldable pub global_item : Production nothing
 global_item = act (λ v. add_item (items.Global (v.0).token (is_same (((v.1).0).0).kind k.ConstantWord) (((v.1).0).1) ((v.1).1)))
-    (the k.Global ⨾ (global_head ⨾ global_value))
+    (one (k.Global ∷ k.DebugGlobal ∷ []) ⨾ (global_head ⨾ global_value))
 
 -- < { any } >
 unfoldable pub packed_any : Production nothing
@@ -128,7 +128,7 @@ declare_head = the k.Declare ▷ (attachments ▷ (attributes at.Declare ▷ typ
 
 -- ( params ) ftail*
 unfoldable pub declare_parameters : Production (list (base parameter))
-declare_parameters = parameters ◁ declare_tail
+declare_parameters = parameters at.Declare ◁ declare_tail
 
 -- declare (metaname metanum)* attr* type global ( params ) ftail*
 unfoldable pub declare_item : Production nothing

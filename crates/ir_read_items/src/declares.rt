@@ -73,7 +73,7 @@ fn declare_head(reader: &mut Reader, levels: u32) -> Result<usize, Failure>
 fn declare_parameters(reader: &mut Reader, levels: u32) -> Result<Vec<SpelledParameter>, Failure>
     ensures { Reads (λ v. v.items) result reader.old reader.new levels declare_parameters }
 {
-    let parameters = reader.parameters(levels)?;
+    let parameters = reader.parameters(Context::Declare, levels)?;
     declare_tail(reader, levels)?;
     Ok(parameters)
 }
@@ -84,7 +84,7 @@ pub(crate) fn declare_item(reader: &mut Reader, levels: u32) -> Result<(), Failu
     ensures { Reads (λ x. x) result reader.old reader.new levels declare_item }
 {
     let result_type = declare_head(reader, levels)?;
-    let name = reader.take_among(&[Kind::Global, Kind::UsedGlobal])?;
+    let name = reader.take_among(&[Kind::Global, Kind::UsedGlobal, Kind::DebugGlobal])?;
     let parameters = declare_parameters(reader, levels)?;
     reader.add_declare(name.token, result_type, parameters.as_slice())
 }

@@ -69,7 +69,7 @@ fn global_part(reader: &mut Reader, levels: u32) -> Result<(), Failure>
 fn comma_part(reader: &mut Reader, levels: u32) -> Result<(), Failure>
     ensures { Reads (λ x. x) result reader.old reader.new levels comma_part }
 {
-    reader.take(Kind::Comma)?;
+    reader.comma()?;
     global_part(reader, levels)
 }
 
@@ -78,7 +78,7 @@ fn comma_part(reader: &mut Reader, levels: u32) -> Result<(), Failure>
 fn global_tail(reader: &mut Reader, levels: u32) -> Result<(), Failure>
     ensures { Reads (λ x. x) result reader.old reader.new levels global_tail }
 {
-    while reader.next_is(Kind::Comma) {
+    while reader.comma_is_next() {
         comma_part(reader, levels)?;
     }
     Ok(())
@@ -99,7 +99,7 @@ fn global_value(reader: &mut Reader, levels: u32) -> Result<usize, Failure>
 pub(crate) fn global_item(reader: &mut Reader, levels: u32) -> Result<(), Failure>
     ensures { Reads (λ x. x) result reader.old reader.new levels global_item }
 {
-    let name = reader.take(Kind::Global)?;
+    let name = reader.take_among(&[Kind::Global, Kind::DebugGlobal])?;
     let (word, ty) = global_head(reader, levels)?;
     let value = global_value(reader, levels)?;
     reader.add_item(SpelledItem::Global {

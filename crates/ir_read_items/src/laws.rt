@@ -1,12 +1,14 @@
-ghost use Rattle.ir_read_items.specs.ItemLaws.{SpelledIsModule, ModuleIsSpelled, BeforeFaultBegins, FaultEnds, FaultIsNoModule};
+ghost use Rattle.ir_read_items.specs.ItemLaws.{SpelledIsModule, ModuleIsSpelled, BeforeFaultBegins, FaultEnds, FaultIsNoModule, NestingGoesOn, TooFewLevels};
 
 /// The law of items: exactly the modules of the grammar are read, with what they spell, and a fault stands at the first
-/// token with which no module begins, unless it is one of nesting. Of such a fault the law says that the tokens before it
-/// begin a module. The end of the text is a token.
+/// token with which no module begins, unless it is one of nesting. Such a fault is at the bracket with which a module
+/// begins, but only one of more than 64 levels. The end of the text is a token.
 pub fn texts_are_modules()
     ensures read { SpelledIsModule }
     ensures complete { ModuleIsSpelled }
     ensures before { BeforeFaultBegins }
     ensures at { FaultEnds }
     ensures whole { FaultIsNoModule }
+    ensures nesting { NestingGoesOn }
+    ensures levels { TooFewLevels }
 {}

@@ -17,12 +17,13 @@ use std::alloc::Global;
 const NESTING_LIMIT: u32 = 64;
 
 /// The kinds that an item begins with wherever it stands, but for a declare.
-const STARTS: [Kind; 7] = [
+const STARTS: [Kind; 8] = [
     Kind::SourceFilename,
     Kind::Target,
     Kind::Local,
     Kind::LocalDefinition,
     Kind::Global,
+    Kind::DebugGlobal,
     Kind::UsedGlobal,
     Kind::AttributesWord,
 ];
@@ -53,7 +54,7 @@ fn item(reader: &mut Reader, names: &[Kind], levels: u32) -> Result<(), Failure>
     if reader.next_among(&[Kind::Local, Kind::LocalDefinition]) {
         return type_item(reader, levels);
     }
-    if reader.next_is(Kind::Global) {
+    if reader.next_among(&[Kind::Global, Kind::DebugGlobal]) {
         return global_item(reader, levels);
     }
     if reader.next_is(Kind::UsedGlobal) {

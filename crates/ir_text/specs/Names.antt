@@ -1,7 +1,7 @@
 -- When two names are one (LLVM Language Reference, "Identifiers"), and the names of the globals that LLVM gives a meaning
 -- (LLVM Language Reference, "Intrinsic Global Variables").
-use Rattle.std.specs.Prelude.{ℕ, List, ◌∷◌, drop, Bool, ◌||◌, if◌then◌else◌, codes}
-use Rattle.std.specs.List.{list_all}
+use Rattle.std.specs.Prelude.{ℕ, List, ◌∷◌, drop, Bool, ◌||◌, if◌then◌else◌, nat_eq, codes}
+use Rattle.std.specs.List.{list_all, starts_with}
 use Rattle.std.specs.Char.{is_ascii_digit}
 use Rattle.std.specs.Str.{bytes_eq}
 use Rattle.ir_core.specs.Spelling.{quote}
@@ -23,3 +23,7 @@ is_used_list bytes = bytes_eq (global_name bytes) (codes "llvm.used") || bytes_e
 -- the token names the list of what runs before main
 abbrev pub is_constructor_list : List ℕ → Bool
 is_constructor_list bytes = bytes_eq (global_name bytes) (codes "llvm.global_ctors")
+
+-- the token names a function that describes variables to a debugger (LLVM Language Reference, "Debugger intrinsics")
+abbrev pub is_debug_function : List ℕ → Bool
+is_debug_function bytes = starts_with nat_eq (global_name bytes) (codes "llvm.dbg.")

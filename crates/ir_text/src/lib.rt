@@ -10,7 +10,8 @@ mod numbers;
 
 pub use data_layout::is_layout_taken;
 pub use names::{
-    is_constructor_list, is_label_of, is_used_list, name_bytes, name_key, string_bytes,
+    is_constructor_list, is_debug_function, is_label_of, is_used_list, name_bytes, name_key,
+    string_bytes,
 };
 pub use numbers::{line_or_column, number_behind_bang, significant, small_number};
 

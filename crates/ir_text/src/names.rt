@@ -1,9 +1,9 @@
-ghost use Rattle.std.specs.Prelude.{◌≡◌, IfOk};
+ghost use Rattle.std.specs.Prelude.{◌≡◌, drop, IfOk};
 ghost use Rattle.std.specs.List.{list_all};
 ghost use Rattle.std.specs.Char.{is_ascii_digit};
 ghost use Rattle.std.specs.Str.{bytes_eq};
 ghost use Rattle.ir_text.specs.TokenText.{between_quotes, string_bytes_of, name_bytes, label_name};
-ghost use Rattle.ir_text.specs.Names.{name_key, global_name, is_used_list, is_constructor_list};
+ghost use Rattle.ir_text.specs.Names.{name_key, global_name, is_used_list, is_constructor_list, is_debug_function};
 
 use crate::escapes::{unescape, unescapes_to};
 use crate::numbers::significant;
@@ -113,4 +113,24 @@ pub fn is_constructor_list(bytes: &[u8]) -> bool
     ensures { result ≡ is_constructor_list bytes.now }
 {
     is_global_named(bytes, b"llvm.global_ctors".as_slice())
+}
+
+/// What stands behind the first byte.
+fn behind_first(bytes: &[u8]) -> &[u8]
+    ensures { result.now ≡ drop 1 bytes.now }
+{
+    match bytes {
+        [] => bytes,
+        [_, behind @ ..] => behind,
+    }
+}
+
+/// Whether a global's name, given with its `@`, begins with `llvm.dbg.`, as those of the functions that describe variables
+/// to a debugger do (LLVM Language Reference, "Debugger intrinsics"), quoted or not. The only error is running out of
+/// memory.
+pub fn is_debug_function(alloc: Global, bytes: &[u8]) -> Result<bool, OutOfMemory>
+    ensures { IfOk result (λ found. found ≡ is_debug_function bytes.now) }
+{
+    let name = name_bytes(alloc, behind_first(bytes))?;
+    Ok(name.as_slice().starts_with(b"llvm.dbg.".as_slice()))
 }

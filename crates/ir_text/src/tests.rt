@@ -110,3 +110,20 @@ fn the_globals_that_llvm_names_are_known_quoted_or_not(rt: HostRuntime) -> Resul
     }
     Ok(())
 }
+
+#[test]
+fn functions_for_debuggers_are_known_quoted_or_not(rt: HostRuntime) -> Result<(), Fail> {
+    let rows = [
+        (b"@llvm.dbg.value".as_slice(), true),
+        (b"@llvm.dbg.", true),
+        (b"@\"llvm.dbg\\2edeclare\"", true),
+        (b"@llvm.dbg", false),
+        (b"@llvm.dbgx.value", false),
+        (b"@\"@llvm.dbg.value\"", false),
+        (b"", false),
+    ];
+    for (name, known) in rows {
+        assert_eq!(rt; is_debug_function(rt.alloc(), name)?, known, "{name:?}");
+    }
+    Ok(())
+}

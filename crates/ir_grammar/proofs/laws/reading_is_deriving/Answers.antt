@@ -6,6 +6,7 @@ use Rattle.ir_grammar.proofs.Sound.{all_sound}
 use Rattle.ir_grammar.proofs.Complete.{again_read}
 use Rattle.ir_grammar.proofs.Viable.{begins_before}
 use Rattle.ir_grammar.proofs.Grown.{stuck, no_whole}
+use Rattle.ir_grammar.proofs.Deeper.{bracket_begins, too_few_levels}
 use Rattle.ir_grammar.proofs.WellFormed.{well_formed}
 use Rattle.ir_grammar.proofs.laws.reading_is_deriving.Goals as goal
 
@@ -26,3 +27,9 @@ returns-clause-at c = λ levels s a front token rest st e clear g failed at othe
 
 pub returns-clause-whole : goal.returns-clause-whole
 returns-clause-whole c = λ levels s a ts st e clear failed other k x end d. no_whole shared production well_formed levels s a ts st e clear failed other k x end d
+
+pub returns-clause-nesting : goal.returns-clause-nesting
+returns-clause-nesting c = λ levels s a front token rest st e g has_one failed at n. bracket_begins shared production well_formed levels s a front token rest st e g has_one failed at n
+
+pub returns-clause-levels : goal.returns-clause-levels
+returns-clause-levels c = λ levels s a front token rest st e clear g failed at more x end d. too_few_levels shared production well_formed levels s a front token rest st e clear g failed at more x end d

@@ -4,6 +4,7 @@ use Rattle.ir_grammar.specs.Names.{shared}
 use Rattle.ir_grammar.specs.Grammar.{production, nesting_limit}
 use Rattle.ir_grammar.proofs.Viable.{begins_before}
 use Rattle.ir_grammar.proofs.Grown.{stuck, no_whole}
+use Rattle.ir_grammar.proofs.Deeper.{bracket_begins, too_few_levels}
 use Rattle.ir_grammar.proofs.WellFormed.{well_formed}
 use Rattle.ir_read_items.specs.Items.{module_rule}
 use Rattle.ir_read_items.specs.ItemReading.{nothing_read, spelled}
@@ -28,3 +29,9 @@ returns-clause-at c = λ front token rest e h at other begun.
 
 pub returns-clause-whole : goal.returns-clause-whole
 returns-clause-whole c = λ tokens e h other levels store d. no_whole shared production well_formed nesting_limit nothing module_rule tokens nothing_read e module_clear (spelled_failed tokens e h) other levels tt store d
+
+pub returns-clause-nesting : goal.returns-clause-nesting
+returns-clause-nesting c = λ front token rest e h at n. bracket_begins shared production well_formed nesting_limit nothing module_rule front token rest nothing_read e module_goes_on module_has (spelled_failed (front ++ token ∷ rest) e h) at n
+
+pub returns-clause-levels : goal.returns-clause-levels
+returns-clause-levels c = λ front token rest e h at more store d. too_few_levels shared production well_formed nesting_limit nothing module_rule front token rest nothing_read e module_clear module_goes_on (spelled_failed (front ++ token ∷ rest) e h) at more tt store d

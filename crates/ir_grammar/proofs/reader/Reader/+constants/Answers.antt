@@ -11,7 +11,7 @@ more_elements-loop-self-smaller t c = comma_constant_takes _ _ _ _ c.in_ok-next.
 pub more_elements-loop-self-preserved : goal.more_elements-loop-self-preserved
 more_elements-loop-self-preserved t c =
     (ap (λ v. with_front v (read c.args.levels more_elements c.comma_constant.new.self.rest.now (store_of c.comma_constant.new.self.found))) c.in_ok-push-2.ensures.items
-    ∙ sym (elements_more _ c.loop-self.elements.items _ _ _ (sym c.next_is.ensures ∙ c.loop-self-test.true) c.in_ok-next.ensures))
+    ∙ sym (elements_more _ c.loop-self.elements.items _ _ _ (sym c.comma_is_next.ensures ∙ c.loop-self-test.true) c.in_ok-next.ensures))
     ∙ c.loop-self.invariant
 
 pub elements_inside-returns-else-starts_element : goal.elements_inside-returns-else-starts_element

@@ -11,7 +11,7 @@ more_types-loop-context-smaller t c = comma_type_takes _ _ _ _ _ c.in_ok-next.en
 pub more_types-loop-context-preserved : goal.more_types-loop-context-preserved
 more_types-loop-context-preserved t c =
     (ap (λ v. with_front v (read c.args.levels (more_types c.args.context) c.comma_type.new.self.rest.now (store_of c.comma_type.new.self.found))) c.in_ok-push-2.ensures.items
-    ∙ sym (types_more _ _ c.loop-context.types.items _ _ _ (sym c.next_is.ensures ∙ c.loop-context-test.true) c.in_ok-next.ensures))
+    ∙ sym (types_more _ _ c.loop-context.types.items _ _ _ (sym c.comma_is_next.ensures ∙ c.loop-context-test.true) c.in_ok-next.ensures))
     ∙ c.loop-context.invariant
 
 pub types_inside-returns-else-starts_type : goal.types_inside-returns-else-starts_type

@@ -5,31 +5,34 @@ use Rattle.ir_grammar.specs.Types.{more_types}
 use Rattle.ir_grammar.proofs.reader.Reader.+types.Given as goal
 
 abbrev pub decreases-array_type : goal.decreases-array_type
-decreases-array_type l = 6 * l.levels + 1
+decreases-array_type l = 7 * l.levels + 1
 
 abbrev pub decreases-array_inside : goal.decreases-array_inside
-decreases-array_inside l = 6 * l.levels + 5
+decreases-array_inside l = 7 * l.levels + 6
 
 abbrev pub decreases-braced_types : goal.decreases-braced_types
-decreases-braced_types l = 6 * l.levels
+decreases-braced_types l = 7 * l.levels
 
 abbrev pub decreases-struct_type : goal.decreases-struct_type
-decreases-struct_type l = 6 * l.levels + 1
+decreases-struct_type l = 7 * l.levels + 1
 
 abbrev pub decreases-packed_type : goal.decreases-packed_type
-decreases-packed_type l = 6 * l.levels + 1
+decreases-packed_type l = 7 * l.levels + 1
 
 abbrev pub decreases-ty : goal.decreases-ty
-decreases-ty l = 6 * l.levels + 2
+decreases-ty l = 7 * l.levels + 3
+
+abbrev pub decreases-solid_type : goal.decreases-solid_type
+decreases-solid_type l = 7 * l.levels + 2
 
 abbrev pub decreases-comma_type : goal.decreases-comma_type
-decreases-comma_type l = 6 * l.levels + 3
+decreases-comma_type l = 7 * l.levels + 4
 
 abbrev pub decreases-more_types : goal.decreases-more_types
-decreases-more_types l = 6 * l.levels + 4
+decreases-more_types l = 7 * l.levels + 5
 
 abbrev pub decreases-types_inside : goal.decreases-types_inside
-decreases-types_inside l = 6 * l.levels + 5
+decreases-types_inside l = 7 * l.levels + 6
 
 abbrev pub invariant-more_types-loop-context : goal.invariant-more_types-loop-context
 invariant-more_types-loop-context l = with_front l.types.items (read l.levels (more_types l.context) l.self.rest.now (store_of l.self.found))

@@ -1,0 +1,12 @@
+pub mod ArgumentLists
+pub mod BlockLists
+pub mod BodyClear
+pub mod BodyKinds
+pub mod CallTails
+pub mod CaseLists
+pub mod EndingLists
+pub mod FlagLists
+pub mod PartLists
+pub mod PhiLists
+pub mod ReturnKinds
+pub mod StepLists

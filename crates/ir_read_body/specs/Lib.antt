@@ -1,0 +1,3 @@
+pub mod BodyLaws
+pub mod BodyReading
+pub mod Views
