@@ -6,10 +6,9 @@ use Rattle.std.proofs.lemmas.List.Sums.{sum_by-append}
 use Rattle.std.proofs.lemmas.Slice.Eq.{bytes_eq-Decides}
 use Rattle.hw_base.specs.declared.endings.Status.{Status}
 use Rattle.hw_base.specs.declared.endings.Status.TheVariants.{WriteFault}
-use Rattle.hw_ports.specs.Content.{Content}
 use Rattle.hw_driver.specs.Line.{Line}
 use Rattle.hw_driver.specs.Machine.{MachineEnding, Exits, EndsInReport, machine_run}
-use Rattle.hw_driver.specs.Answer.{Decision, FileRead, Runs, JudgesText, file_read, file_failed, memory_failed, Decides, SinkChange, Delivers, delivered, out_failed, err_failed, Answers, ending_decision, tag_under}
+use Rattle.hw_driver.specs.Answer.{Decision, FileRead, FilesChange, Runs, JudgesText, file_read, file_failed, memory_failed, Decides, SinkChange, Delivers, delivered, out_failed, err_failed, Answers, ending_decision, tag_under}
 use Rattle.hw_driver.specs.Promises.{times, FileRose, HasRead, HasItsCause, IsFileOrWriteFault, AnswersRises}
 
 -- bytes are equal to themselves
@@ -22,10 +21,10 @@ times-push name names =
     sum_by-append (λ other. cond (bytes_eq other name) 1 0) names (name ∷ []) ∙ ap (λ b. times name names + (0 + cond b 1 0)) (bytes_eq-self name)
 
 -- how a run ended is the cause of its status
-ending_cause : (words : Option Line) (content : List ℕ → Content) (old new : List (List ℕ)) (out err : SinkChange) (l : Line) (read : FileRead) (d : Decision)
-    → HasRead words content l read → (r : Runs l read d) → (e : MachineEnding) → machine_run (tag_under l) r.program ≡ e
-    → HasItsCause words content old new out err (ending_decision e).status
-ending_cause words content old new out err l read d has r (Exits output step) is = record {
+ending_cause : (words : Option Line) (files : FilesChange) (out err : SinkChange) (l : Line) (read : FileRead) (d : Decision)
+    → HasRead words files l read → (r : Runs l read d) → (e : MachineEnding) → machine_run (tag_under l) r.program ≡ e
+    → HasItsCause words files out err (ending_decision e).status
+ending_cause words files out err l read d has r (Exits output step) is = record {
   command = l;
   read = read;
   has_read = has;
@@ -33,7 +32,7 @@ ending_cause words content old new out err l read d has r (Exits output step) is
   accepted = r.accepted;
   ending = ap (λ e. (ending_decision e).status) is;
 }
-ending_cause words content old new out err l read d has r (EndsInReport output failed) is = record {
+ending_cause words files out err l read d has r (EndsInReport output failed) is = record {
   command = l;
   read = read;
   has_read = has;
@@ -42,33 +41,33 @@ ending_cause words content old new out err l read d has r (EndsInReport output f
   ending = ap (λ e. (ending_decision e).status) is;
 }
 
-text_cause : (words : Option Line) (content : List ℕ → Content) (old new : List (List ℕ)) (out err : SinkChange) (l : Line) (read : FileRead) (d : Decision)
-    → HasRead words content l read → JudgesText l read d → HasItsCause words content old new out err d.status
-text_cause words content old new out err l read d has (inl r) =
-    subst (λ (x : Decision). HasItsCause words content old new out err x.status) (sym r.decision) (ending_cause words content old new out err l read d has r (machine_run (tag_under l) r.program) refl)
-text_cause words content old new out err l read d has (inr r) =
-    subst (λ (x : Decision). HasItsCause words content old new out err x.status) (sym r.decision)
+text_cause : (words : Option Line) (files : FilesChange) (out err : SinkChange) (l : Line) (read : FileRead) (d : Decision)
+    → HasRead words files l read → JudgesText l read d → HasItsCause words files out err d.status
+text_cause words files out err l read d has (inl r) =
+    subst (λ (x : Decision). HasItsCause words files out err x.status) (sym r.decision) (ending_cause words files out err l read d has r (machine_run (tag_under l) r.program) refl)
+text_cause words files out err l read d has (inr r) =
+    subst (λ (x : Decision). HasItsCause words files out err x.status) (sym r.decision)
     (record { command = l; read = read; has_read = has; not_accepted = r.not_accepted })
 
-decision_cause : (words : Option Line) (content : List ℕ → Content) (old new : List (List ℕ)) (out err : SinkChange) (d : Decision)
-    → Decides content old new words d → HasItsCause words content old new out err d.status
-decision_cause None content old new out err d decided = subst (λ (x : Decision). HasItsCause None content old new out err x.status) (sym decided.1) refl
-decision_cause (Some l) content old new out err d (file_read j) = text_cause (Some l) content old new out err l j.read d (record { line = refl; read_as = j.reads_as }) j.text
-decision_cause (Some l) content old new out err d (file_failed grown is) =
-    subst (λ (x : Decision). HasItsCause (Some l) content old new out err x.status) (sym is) (rw (grown, times-push l.file old) (omega arith))
-decision_cause (Some l) content old new out err d (memory_failed same is) = subst (λ (x : Decision). HasItsCause (Some l) content old new out err x.status) (sym is) tt
+decision_cause : (words : Option Line) (files : FilesChange) (out err : SinkChange) (d : Decision)
+    → Decides files words d → HasItsCause words files out err d.status
+decision_cause None files out err d decided = subst (λ (x : Decision). HasItsCause None files out err x.status) (sym decided.2) refl
+decision_cause (Some l) files out err d (file_read j) = text_cause (Some l) files out err l j.read d (record { line = refl; read_as = j.reads_as }) j.text
+decision_cause (Some l) files out err d (file_failed once grown is) =
+    subst (λ (x : Decision). HasItsCause (Some l) files out err x.status) (sym is) (rw (grown, times-push l.file files.failed_before) (omega arith))
+decision_cause (Some l) files out err d (memory_failed reads same is) = subst (λ (x : Decision). HasItsCause (Some l) files out err x.status) (sym is) tt
 
-delivery_cause : (words : Option Line) (content : List ℕ → Content) (old new : List (List ℕ)) (result : Status) (out err : SinkChange) (d : Decision)
-    → Decides content old new words d → Delivers d result out err → HasItsCause words content old new out err result
-delivery_cause words content old new result out err d decided (delivered is o e) =
-    subst (HasItsCause words content old new out err) (sym is) (decision_cause words content old new out err d decided)
-delivery_cause words content old new result out err d decided (out_failed is o e) = subst (HasItsCause words content old new out err) (sym is) (inl o.rose)
-delivery_cause words content old new result out err d decided (err_failed is o e) = subst (HasItsCause words content old new out err) (sym is) (inr e.rose)
+delivery_cause : (words : Option Line) (files : FilesChange) (result : Status) (out err : SinkChange) (d : Decision)
+    → Decides files words d → Delivers d result out err → HasItsCause words files out err result
+delivery_cause words files result out err d decided (delivered is o e) =
+    subst (HasItsCause words files out err) (sym is) (decision_cause words files out err d decided)
+delivery_cause words files result out err d decided (out_failed is o e) = subst (HasItsCause words files out err) (sym is) (inl o.rose)
+delivery_cause words files result out err d decided (err_failed is o e) = subst (HasItsCause words files out err) (sym is) (inr e.rose)
 
 -- each answer has its cause
-pub Answers-cause : (words : Option Line) (content : List ℕ → Content) (old new : List (List ℕ)) (result : Status) (out err : SinkChange)
-    → Answers words content old new result out err → HasItsCause words content old new out err result
-Answers-cause words content old new result out err a = delivery_cause words content old new result out err a.decision a.decided a.delivered
+pub Answers-cause : (words : Option Line) (files : FilesChange) (result : Status) (out err : SinkChange)
+    → Answers words files result out err → HasItsCause words files out err result
+Answers-cause words files result out err a = delivery_cause words files result out err a.decision a.decided a.delivered
 
 out_rise : (d : Decision) (result : Status) (out err : SinkChange) → Delivers d result out err → out.faults_before < out.faults_after → result ≡ WriteFault
 out_rise d result out err (delivered is o e) rose = absurd (omega (arith, o.quiet))
@@ -84,24 +83,24 @@ err_rise d result out err (err_failed is o e) rose = is
 pub unrisen : (name : List ℕ) (old new : List (List ℕ)) → new ≡ old → times name old < times name new → ⊥
 unrisen name old new same rose = let less : times name old < times name old = rw same at rose in omega (arith, less)
 
-file_rise_of : (words : Option Line) (content : List ℕ → Content) (old new : List (List ℕ)) (d : Decision)
-    → Decides content old new words d → FileRose words old new → IsFileOrWriteFault d.status
-file_rise_of None content old new d decided rose = absurd rose
-file_rise_of (Some l) content old new d (file_read j) rose = absurd (unrisen l.file old new j.no_fault rose)
-file_rise_of (Some l) content old new d (file_failed grown is) rose = subst (λ (x : Decision). IsFileOrWriteFault x.status) (sym is) tt
-file_rise_of (Some l) content old new d (memory_failed same is) rose = absurd (unrisen l.file old new same rose)
+file_rise_of : (words : Option Line) (files : FilesChange) (d : Decision)
+    → Decides files words d → FileRose words files → IsFileOrWriteFault d.status
+file_rise_of None files d decided rose = absurd rose
+file_rise_of (Some l) files d (file_read j) rose = absurd (unrisen l.file files.failed_before files.failed_after j.no_fault rose)
+file_rise_of (Some l) files d (file_failed once grown is) rose = subst (λ (x : Decision). IsFileOrWriteFault x.status) (sym is) tt
+file_rise_of (Some l) files d (memory_failed reads same is) rose = absurd (unrisen l.file files.failed_before files.failed_after same rose)
 
-file_rise : (words : Option Line) (content : List ℕ → Content) (old new : List (List ℕ)) (result : Status) (out err : SinkChange) (d : Decision)
-    → Decides content old new words d → Delivers d result out err → FileRose words old new → IsFileOrWriteFault result
-file_rise words content old new result out err d decided (delivered is o e) rose = subst IsFileOrWriteFault (sym is) (file_rise_of words content old new d decided rose)
-file_rise words content old new result out err d decided (out_failed is o e) rose = subst IsFileOrWriteFault (sym is) tt
-file_rise words content old new result out err d decided (err_failed is o e) rose = subst IsFileOrWriteFault (sym is) tt
+file_rise : (words : Option Line) (files : FilesChange) (result : Status) (out err : SinkChange) (d : Decision)
+    → Decides files words d → Delivers d result out err → FileRose words files → IsFileOrWriteFault result
+file_rise words files result out err d decided (delivered is o e) rose = subst IsFileOrWriteFault (sym is) (file_rise_of words files d decided rose)
+file_rise words files result out err d decided (out_failed is o e) rose = subst IsFileOrWriteFault (sym is) tt
+file_rise words files result out err d decided (err_failed is o e) rose = subst IsFileOrWriteFault (sym is) tt
 
 -- no fault is passed over
-pub Answers-rises : (words : Option Line) (content : List ℕ → Content) (old new : List (List ℕ)) (result : Status) (out err : SinkChange)
-    → Answers words content old new result out err → AnswersRises words old new out err result
-Answers-rises words content old new result out err a = record {
+pub Answers-rises : (words : Option Line) (files : FilesChange) (result : Status) (out err : SinkChange)
+    → Answers words files result out err → AnswersRises words files out err result
+Answers-rises words files result out err a = record {
   out_rose = out_rise a.decision result out err a.delivered;
   err_rose = err_rise a.decision result out err a.delivered;
-  file_rose = file_rise words content old new result out err a.decision a.decided a.delivered;
+  file_rose = file_rise words files result out err a.decision a.decided a.delivered;
 }

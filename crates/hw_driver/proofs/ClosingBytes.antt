@@ -3,12 +3,12 @@ use Rattle.std.proofs.Common.{◌≡◌, ℕ, ◌<◌, List, [], length, Some, N
 use Rattle.std.specs.Prelude.{Option}
 use Rattle.hw_base.specs.declared.endings.Status.{Status}
 use Rattle.hw_base.specs.declared.endings.Status.TheVariants.{FileFault, WriteFault, Memory}
-use Rattle.hw_ports.specs.Content.{Content, Bytes}
+use Rattle.hw_ports.specs.Content.{Bytes}
 use Rattle.hw_driver.specs.Line.{Line}
 use Rattle.hw_driver.specs.Program.{Program}
 use Rattle.hw_driver.specs.Machine.{MachineEnding, Exits, EndsInReport, machine_run}
 use Rattle.hw_driver.specs.Closing.{file_fault_line, write_fault_line, memory_line}
-use Rattle.hw_driver.specs.Answer.{Decision, FileRead, IsAccepted, read_of, JudgesText, Judges, file_read, file_failed, memory_failed, Decides, SinkChange, TookAll, TookFront, Delivers, delivered, out_failed, err_failed, Answers, ending_decision, bad_words_decision, file_fault_decision, memory_decision, tag_under}
+use Rattle.hw_driver.specs.Answer.{Decision, FileRead, FilesChange, IsAccepted, read_of, JudgesText, Judges, file_read, file_failed, memory_failed, Decides, SinkChange, TookAll, TookFront, Delivers, delivered, out_failed, err_failed, Answers, ending_decision, bad_words_decision, file_fault_decision, memory_decision, tag_under}
 use Rattle.hw_driver.specs.Promises.{FileRose, TookSome, TookPart, Closes}
 use Rattle.hw_driver.proofs.Causes.{unrisen}
 use Rattle.hw_driver.proofs.Exactness.{bad_words_decided, command_judged, read_told, text_refused, text_run}
@@ -18,7 +18,7 @@ not_short : (c : SinkChange) → TookFront c [] → ⊥
 not_short c t = let none = ap length t.whole in omega (arith, t.more, simp length-append at none)
 
 -- a decision without output leaves `out` alone, and `err` took its text or a front of it
-silent : (d e : Decision) (result : Status) (out err : SinkChange) → d ≡ e → e.output ≡ [] → Delivers d result out err → TookAll out [] × TookSome err e.text
+pub silent : (d e : Decision) (result : Status) (out err : SinkChange) → d ≡ e → e.output ≡ [] → Delivers d result out err → TookAll out [] × TookSome err e.text
 silent d e result out err is none del = go (subst (λ (x : Decision). Delivers x result out err) is del)
   where
     go : Delivers e result out err → TookAll out [] × TookSome err e.text
@@ -43,23 +43,23 @@ text_no_file_fault : (l : Line) (read : FileRead) (d : Decision) → JudgesText 
 text_no_file_fault l read d (inl r) is = ending_no_file_fault (machine_run (tag_under l) r.program) (ap (λ (x : Decision). x.status) (sym r.decision) ∙ is)
 text_no_file_fault l read d (inr r) is = let e = ap (λ (x : Decision). x.status) (sym r.decision) ∙ is in cc
 
-memory_decided : (words : Option Line) (content : List ℕ → Content) (old new : List (List ℕ)) (d : Decision) → Decides content old new words d → d.status ≡ Memory → d ≡ memory_decision
-memory_decided None content old new d decided is = let e = ap (λ (x : Decision). x.status) (sym decided.1) ∙ is in cc
-memory_decided (Some l) content old new d (file_read j) is = absurd (text_no_memory l j.read d j.text is)
-memory_decided (Some l) content old new d (file_failed grown known) is = let e = ap (λ (x : Decision). x.status) (sym known) ∙ is in cc
-memory_decided (Some l) content old new d (memory_failed same known) is = known
+memory_decided : (words : Option Line) (files : FilesChange) (d : Decision) → Decides files words d → d.status ≡ Memory → d ≡ memory_decision
+memory_decided None files d decided is = let e = ap (λ (x : Decision). x.status) (sym decided.2) ∙ is in cc
+memory_decided (Some l) files d (file_read j) is = absurd (text_no_memory l j.read d j.text is)
+memory_decided (Some l) files d (file_failed once grown known) is = let e = ap (λ (x : Decision). x.status) (sym known) ∙ is in cc
+memory_decided (Some l) files d (memory_failed reads same known) is = known
 
-file_fault_decided : (words : Option Line) (content : List ℕ → Content) (old new : List (List ℕ)) (d : Decision) → Decides content old new words d → d.status ≡ FileFault → d ≡ file_fault_decision
-file_fault_decided None content old new d decided is = let e = ap (λ (x : Decision). x.status) (sym decided.1) ∙ is in cc
-file_fault_decided (Some l) content old new d (file_read j) is = absurd (text_no_file_fault l j.read d j.text is)
-file_fault_decided (Some l) content old new d (file_failed grown known) is = known
-file_fault_decided (Some l) content old new d (memory_failed same known) is = let e = ap (λ (x : Decision). x.status) (sym known) ∙ is in cc
+file_fault_decided : (words : Option Line) (files : FilesChange) (d : Decision) → Decides files words d → d.status ≡ FileFault → d ≡ file_fault_decision
+file_fault_decided None files d decided is = let e = ap (λ (x : Decision). x.status) (sym decided.2) ∙ is in cc
+file_fault_decided (Some l) files d (file_read j) is = absurd (text_no_file_fault l j.read d j.text is)
+file_fault_decided (Some l) files d (file_failed once grown known) is = known
+file_fault_decided (Some l) files d (memory_failed reads same known) is = let e = ap (λ (x : Decision). x.status) (sym known) ∙ is in cc
 
-rise_decided : (words : Option Line) (content : List ℕ → Content) (old new : List (List ℕ)) (d : Decision) → Decides content old new words d → FileRose words old new → d ≡ file_fault_decision
-rise_decided None content old new d decided rose = absurd rose
-rise_decided (Some l) content old new d (file_read j) rose = absurd (unrisen l.file old new j.no_fault rose)
-rise_decided (Some l) content old new d (file_failed grown known) rose = known
-rise_decided (Some l) content old new d (memory_failed same known) rose = absurd (unrisen l.file old new same rose)
+rise_decided : (words : Option Line) (files : FilesChange) (d : Decision) → Decides files words d → FileRose words files → d ≡ file_fault_decision
+rise_decided None files d decided rose = absurd rose
+rise_decided (Some l) files d (file_read j) rose = absurd (unrisen l.file files.failed_before files.failed_after j.no_fault rose)
+rise_decided (Some l) files d (file_failed once grown known) rose = known
+rise_decided (Some l) files d (memory_failed reads same known) rose = absurd (unrisen l.file files.failed_before files.failed_after same rose)
 
 -- a delivery that ended with a status other than WriteFault was whole
 whole : (d : Decision) (result : Status) (out err : SinkChange) → (result ≡ WriteFault → ⊥) → Delivers d result out err → (result ≡ d.status) × TookAll out d.output × TookAll err d.text
@@ -67,21 +67,21 @@ whole d result out err not_so (delivered is o e) = (is, o, e)
 whole d result out err not_so (out_failed is o e) = absurd (not_so is)
 whole d result out err not_so (err_failed is o e) = absurd (not_so is)
 
-memory_closes : (words : Option Line) (content : List ℕ → Content) (old new : List (List ℕ)) (result : Status) (out err : SinkChange) (d : Decision)
-    → Decides content old new words d → Delivers d result out err → result ≡ Memory → TookAll out [] × TookAll err memory_line
-memory_closes words content old new result out err d decided del is =
+memory_closes : (words : Option Line) (files : FilesChange) (result : Status) (out err : SinkChange) (d : Decision)
+    → Decides files words d → Delivers d result out err → result ≡ Memory → TookAll out [] × TookAll err memory_line
+memory_closes words files result out err d decided del is =
     let w = whole d result out err (λ (fault : result ≡ WriteFault). wrong fault) del in
-    let known = memory_decided words content old new d decided (sym w.0 ∙ is) in
+    let known = memory_decided words files d decided (sym w.0 ∙ is) in
     (subst (λ (x : Decision). TookAll out x.output) known w.1, subst (λ (x : Decision). TookAll err x.text) known w.2)
   where
     wrong : result ≡ WriteFault → ⊥
     wrong fault = let e = sym is ∙ fault in cc
 
-file_fault_closes : (words : Option Line) (content : List ℕ → Content) (old new : List (List ℕ)) (result : Status) (out err : SinkChange) (d : Decision)
-    → Decides content old new words d → Delivers d result out err → result ≡ FileFault → TookAll out [] × TookAll err file_fault_line
-file_fault_closes words content old new result out err d decided del is =
+file_fault_closes : (words : Option Line) (files : FilesChange) (result : Status) (out err : SinkChange) (d : Decision)
+    → Decides files words d → Delivers d result out err → result ≡ FileFault → TookAll out [] × TookAll err file_fault_line
+file_fault_closes words files result out err d decided del is =
     let w = whole d result out err (λ (fault : result ≡ WriteFault). wrong fault) del in
-    let known = file_fault_decided words content old new d decided (sym w.0 ∙ is) in
+    let known = file_fault_decided words files d decided (sym w.0 ∙ is) in
     (subst (λ (x : Decision). TookAll out x.output) known w.1, subst (λ (x : Decision). TookAll err x.text) known w.2)
   where
     wrong : result ≡ WriteFault → ⊥
@@ -92,13 +92,13 @@ out_rise_closes d result out err (delivered is o e) rise = absurd (omega (arith,
 out_rise_closes d result out err (out_failed is o told) rise = told
 out_rise_closes d result out err (err_failed is o e) rise = absurd (omega (arith, o.quiet))
 
-no_output : (content : List ℕ → Content) (old new : List (List ℕ)) (l : Line) (bytes : List ℕ) (d : Decision) → content l.file ≡ Bytes bytes → ((p : Program) → IsAccepted (read_of bytes) p → ⊥)
-    → Judges content old new l d → d.output ≡ []
-no_output content old new l bytes d told not_so (file_read j) =
-    let text = subst (λ (x : FileRead). JudgesText l x d) (read_told content l.file bytes j.read told j.reads_as) j.text in
+no_output : (files : FilesChange) (l : Line) (bytes : List ℕ) (d : Decision) → files.content l.file ≡ Bytes bytes → ((p : Program) → IsAccepted (read_of bytes) p → ⊥)
+    → Judges files l d → d.output ≡ []
+no_output files l bytes d told not_so (file_read j) =
+    let text = subst (λ (x : FileRead). JudgesText l x d) (read_told files.content l.file bytes j.read told j.reads_as) j.text in
     ap (λ (x : Decision). x.output) (text_refused l (read_of bytes) d not_so text)
-no_output content old new l bytes d told not_so (file_failed grown is) = ap (λ (x : Decision). x.output) is
-no_output content old new l bytes d told not_so (memory_failed same is) = ap (λ (x : Decision). x.output) is
+no_output files l bytes d told not_so (file_failed once grown is) = ap (λ (x : Decision). x.output) is
+no_output files l bytes d told not_so (memory_failed reads same is) = ap (λ (x : Decision). x.output) is
 
 -- `out` has a front of what was decided on
 part : (d : Decision) (result : Status) (out err : SinkChange) → Delivers d result out err → TookPart out d.output
@@ -110,25 +110,25 @@ part d result out err (err_failed is o e) = record { front = d.output; rest = []
 part_of_nothing : (out : SinkChange) (text : List ℕ) → TookAll out [] → TookPart out text
 part_of_nothing out text o = record { front = []; rest = text; whole = refl; taken = o.taken }
 
-run_part : (content : List ℕ → Content) (old new : List (List ℕ)) (result : Status) (out err : SinkChange) (l : Line) (bytes : List ℕ) (p : Program) (d : Decision)
-    → content l.file ≡ Bytes bytes → IsAccepted (read_of bytes) p → Judges content old new l d → Delivers d result out err
+run_part : (files : FilesChange) (result : Status) (out err : SinkChange) (l : Line) (bytes : List ℕ) (p : Program) (d : Decision)
+    → files.content l.file ≡ Bytes bytes → IsAccepted (read_of bytes) p → Judges files l d → Delivers d result out err
     → TookPart out (ending_decision (machine_run (tag_under l) p)).output
-run_part content old new result out err l bytes p d told accepted (file_read j) del =
-    let text = subst (λ (x : FileRead). JudgesText l x d) (read_told content l.file bytes j.read told j.reads_as) j.text in
+run_part files result out err l bytes p d told accepted (file_read j) del =
+    let text = subst (λ (x : FileRead). JudgesText l x d) (read_told files.content l.file bytes j.read told j.reads_as) j.text in
     subst (λ (x : Decision). TookPart out x.output) (text_run l (read_of bytes) p d accepted text) (part d result out err del)
-run_part content old new result out err l bytes p d told accepted (file_failed grown is) del = part_of_nothing out _ (silent d file_fault_decision result out err is refl del).0
-run_part content old new result out err l bytes p d told accepted (memory_failed same is) del = part_of_nothing out _ (silent d memory_decision result out err is refl del).0
+run_part files result out err l bytes p d told accepted (file_failed once grown is) del = part_of_nothing out _ (silent d file_fault_decision result out err is refl del).0
+run_part files result out err l bytes p d told accepted (memory_failed reads same is) del = part_of_nothing out _ (silent d memory_decision result out err is refl del).0
 
-pub Answers-closes : (words : Option Line) (content : List ℕ → Content) (old new : List (List ℕ)) (result : Status) (out err : SinkChange)
-    → Answers words content old new result out err → Closes words content old new out err result
-Answers-closes words content old new result out err a = record {
-  memory = memory_closes words content old new result out err a.decision a.decided a.delivered;
-  file_fault = file_fault_closes words content old new result out err a.decision a.decided a.delivered;
+pub Answers-closes : (words : Option Line) (files : FilesChange) (result : Status) (out err : SinkChange)
+    → Answers words files result out err → Closes words files out err result
+Answers-closes words files result out err a = record {
+  memory = memory_closes words files result out err a.decision a.decided a.delivered;
+  file_fault = file_fault_closes words files result out err a.decision a.decided a.delivered;
   out_rose = out_rise_closes a.decision result out err a.delivered;
-  file_rose = λ rise. silent a.decision file_fault_decision result out err (rise_decided words content old new a.decision a.decided rise) refl a.delivered;
-  no_line = λ none. silent a.decision bad_words_decision result out err (bad_words_decided words content old new a.decision none a.decided) refl a.delivered;
+  file_rose = λ rise. silent a.decision file_fault_decision result out err (rise_decided words files a.decision a.decided rise) refl a.delivered;
+  no_line = λ none. silent a.decision bad_words_decision result out err (bad_words_decided words files a.decision none a.decided) refl a.delivered;
   not_accepted = λ l bytes some told not_so. (silent a.decision a.decision result out err refl
-      (no_output content old new l bytes a.decision told not_so (command_judged words content old new a.decision l some a.decided)) a.delivered).0;
-  accepted = λ l bytes p some told accepted. run_part content old new result out err l bytes p a.decision told accepted
-      (command_judged words content old new a.decision l some a.decided) a.delivered;
+      (no_output files l bytes a.decision told not_so (command_judged words files a.decision l some a.decided)) a.delivered).0;
+  accepted = λ l bytes p some told accepted. run_part files result out err l bytes p a.decision told accepted
+      (command_judged words files a.decision l some a.decided) a.delivered;
 }

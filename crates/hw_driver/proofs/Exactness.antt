@@ -1,5 +1,5 @@
 -- Without a fault and with enough memory, the answer is that of the words and the text.
-use Rattle.std.proofs.Common.{◌≡◌, ℕ, List, [], ◌∷◌, ◌++◌, Some, None, ◌∙◌, ap, subst, inl, inr, arith}
+use Rattle.std.proofs.Common.{◌≡◌, ℕ, List, Some, None, ◌∙◌, ap, subst, inl, inr, arith}
 use Rattle.std.specs.Prelude.{Option}
 use Rattle.hw_base.specs.declared.endings.Status.{Status}
 use Rattle.hw_base.specs.declared.endings.Status.TheVariants.{Memory}
@@ -7,36 +7,36 @@ use Rattle.hw_ports.specs.Content.{Content, Bytes}
 use Rattle.hw_driver.specs.Line.{Line}
 use Rattle.hw_driver.specs.Program.{Program}
 use Rattle.hw_driver.specs.Machine.{machine_run}
-use Rattle.hw_driver.specs.Answer.{Decision, FileRead, Whole, TooLong, ReadsAs, IsAccepted, read_of, JudgesText, JudgesFile, Judges, file_read, file_failed, memory_failed, Decides, SinkChange, Delivers, delivered, out_failed, err_failed, Answers, ending_decision, refused_decision, bad_words_decision, tag_under}
+use Rattle.hw_driver.specs.Answer.{Decision, FileRead, FilesChange, OneReadFailed, Whole, TooLong, ReadsAs, IsAccepted, read_of, JudgesText, JudgesFile, Judges, file_read, file_failed, memory_failed, Decides, SinkChange, Delivers, delivered, out_failed, err_failed, Answers, ending_decision, refused_decision, bad_words_decision, tag_under}
 use Rattle.hw_driver.specs.Promises.{FileRose, HadNoFault, Shows, IsExact}
 use Rattle.hw_driver.proofs.Causes.{times-push}
 use Rattle.hw_driver.proofs.Spelling.{program_of-spelling}
 
 -- without a fault the decision is delivered whole
-shown : (words : Option Line) (old new : List (List ℕ)) (d : Decision) (result : Status) (out err : SinkChange) → Delivers d result out err → HadNoFault words old new out err result → Shows d result out err
-shown words old new d result out err (delivered is o e) h = record { status = is; output = o.taken; text = e.taken }
-shown words old new d result out err (out_failed is o e) h = absurd (h.no_out_fault o.rose)
-shown words old new d result out err (err_failed is o e) h = absurd (h.no_err_fault e.rose)
+shown : (words : Option Line) (files : FilesChange) (d : Decision) (result : Status) (out err : SinkChange) → Delivers d result out err → HadNoFault words files out err result → Shows d result out err
+shown words files d result out err (delivered is o e) h = record { status = is; output = o.taken; text = e.taken }
+shown words files d result out err (out_failed is o e) h = absurd (h.no_out_fault o.rose)
+shown words files d result out err (err_failed is o e) h = absurd (h.no_err_fault e.rose)
 
 -- words that are no command are answered as such
-pub bad_words_decided : (words : Option Line) (content : List ℕ → Content) (old new : List (List ℕ)) (d : Decision) → words ≡ None → Decides content old new words d → d ≡ bad_words_decision
-bad_words_decided None content old new d none decided = decided.1
-bad_words_decided (Some l) content old new d none decided = cc
+pub bad_words_decided : (words : Option Line) (files : FilesChange) (d : Decision) → words ≡ None → Decides files words d → d ≡ bad_words_decision
+bad_words_decided None files d none decided = decided.2
+bad_words_decided (Some l) files d none decided = cc
 
 -- a command is judged
-pub command_judged : (words : Option Line) (content : List ℕ → Content) (old new : List (List ℕ)) (d : Decision) (l : Line) → words ≡ Some l → Decides content old new words d → Judges content old new l d
-command_judged None content old new d l some decided = cc
-command_judged (Some k) content old new d l some decided = let same : k ≡ l = cc in subst (λ (x : Line). Judges content old new x d) same decided
+pub command_judged : (words : Option Line) (files : FilesChange) (d : Decision) (l : Line) → words ≡ Some l → Decides files words d → Judges files l d
+command_judged None files d l some decided = cc
+command_judged (Some k) files d l some decided = let same : k ≡ l = cc in subst (λ (x : Line). Judges files x d) same decided
 
 -- a rise of the count, where the read of the file failed
-pub rose : (l : Line) (old new : List (List ℕ)) → new ≡ old ++ l.file ∷ [] → FileRose (Some l) old new
-rose l old new grown = rw (grown, times-push l.file old) (omega arith)
+pub rose : (l : Line) (files : FilesChange) → OneReadFailed files l.file → FileRose (Some l) files
+rose l files grown = rw (grown, times-push l.file files.failed_before) (omega arith)
 
 -- without a failed read and with enough memory, the file was read
-was_read : (content : List ℕ → Content) (old new : List (List ℕ)) (l : Line) (d : Decision) → (FileRose (Some l) old new → ⊥) → (d.status ≡ Memory → ⊥) → Judges content old new l d → JudgesFile content old new l d
-was_read content old new l d no_rise held (file_read j) = j
-was_read content old new l d no_rise held (file_failed grown is) = absurd (no_rise (rose l old new grown))
-was_read content old new l d no_rise held (memory_failed same is) = absurd (held (ap (λ (x : Decision). x.status) is))
+was_read : (files : FilesChange) (l : Line) (d : Decision) → (FileRose (Some l) files → ⊥) → (d.status ≡ Memory → ⊥) → Judges files l d → JudgesFile files l d
+was_read files l d no_rise held (file_read j) = j
+was_read files l d no_rise held (file_failed once grown is) = absurd (no_rise (rose l files grown))
+was_read files l d no_rise held (memory_failed reads same is) = absurd (held (ap (λ (x : Decision). x.status) is))
 
 -- an observable text is read as it is
 pub read_told : (content : List ℕ → Content) (file bytes : List ℕ) (read : FileRead) → content file ≡ Bytes bytes → ReadsAs (content file) read → read ≡ read_of bytes
@@ -56,21 +56,21 @@ text_run l read p d accepted (inl r) = r.decision ∙ ap (λ (q : Program). endi
 text_run l read p d accepted (inr r) = absurd (r.not_accepted p accepted)
 
 -- a command whose text is observable: the file was read, and the text is that one
-told_text : (words : Option Line) (content : List ℕ → Content) (old new : List (List ℕ)) (result : Status) (out err : SinkChange) (d : Decision) (l : Line) (bytes : List ℕ)
-    → words ≡ Some l → content l.file ≡ Bytes bytes → HadNoFault words old new out err result → result ≡ d.status → Decides content old new words d → JudgesText l (read_of bytes) d
-told_text words content old new result out err d l bytes some told h is decided =
-    let no_rise : FileRose (Some l) old new → ⊥ = rw some at h.no_file_fault in
-    let j = was_read content old new l d no_rise (λ full. h.memory_held (is ∙ full)) (command_judged words content old new d l some decided) in
-    subst (λ (x : FileRead). JudgesText l x d) (read_told content l.file bytes j.read told j.reads_as) j.text
+told_text : (words : Option Line) (files : FilesChange) (result : Status) (out err : SinkChange) (d : Decision) (l : Line) (bytes : List ℕ)
+    → words ≡ Some l → files.content l.file ≡ Bytes bytes → HadNoFault words files out err result → result ≡ d.status → Decides files words d → JudgesText l (read_of bytes) d
+told_text words files result out err d l bytes some told h is decided =
+    let no_rise : FileRose (Some l) files → ⊥ = rw some at h.no_file_fault in
+    let j = was_read files l d no_rise (λ full. h.memory_held (is ∙ full)) (command_judged words files d l some decided) in
+    subst (λ (x : FileRead). JudgesText l x d) (read_told files.content l.file bytes j.read told j.reads_as) j.text
 
-pub Answers-exact : (words : Option Line) (content : List ℕ → Content) (old new : List (List ℕ)) (result : Status) (out err : SinkChange)
-    → Answers words content old new result out err → HadNoFault words old new out err result → IsExact words content result out err
-Answers-exact words content old new result out err a h =
-    let all = shown words old new a.decision result out err a.delivered h in
+pub Answers-exact : (words : Option Line) (files : FilesChange) (result : Status) (out err : SinkChange)
+    → Answers words files result out err → HadNoFault words files out err result → IsExact words files result out err
+Answers-exact words files result out err a h =
+    let all = shown words files a.decision result out err a.delivered h in
     record {
-      bad_words = λ none. subst (λ (x : Decision). Shows x result out err) (bad_words_decided words content old new a.decision none a.decided) all;
+      bad_words = λ none. subst (λ (x : Decision). Shows x result out err) (bad_words_decided words files a.decision none a.decided) all;
       refused = λ l bytes some told not_so. subst (λ (x : Decision). Shows x result out err)
-          (text_refused l (read_of bytes) a.decision not_so (told_text words content old new result out err a.decision l bytes some told h all.status a.decided)) all;
+          (text_refused l (read_of bytes) a.decision not_so (told_text words files result out err a.decision l bytes some told h all.status a.decided)) all;
       run = λ l bytes p some told accepted. subst (λ (x : Decision). Shows x result out err)
-          (text_run l (read_of bytes) p a.decision accepted (told_text words content old new result out err a.decision l bytes some told h all.status a.decided)) all;
+          (text_run l (read_of bytes) p a.decision accepted (told_text words files result out err a.decision l bytes some told h all.status a.decided)) all;
     }

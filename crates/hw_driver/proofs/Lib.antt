@@ -2,12 +2,15 @@ pub mod Causes
 pub mod ClosingBytes
 pub mod Detected
 pub mod Exactness
+pub mod FileReads
 pub mod Groups
 pub mod Judged
 pub mod MachineRuns
 pub mod Numerals
+pub mod PiecesGiven
 pub mod Regrouped
 pub mod Sent
 pub mod Simulation
 pub mod Spelled
 pub mod Spelling
+pub mod WholeLines

@@ -83,23 +83,57 @@ pub record Refuses (read : FileRead) (d : Decision) : Type 0 where
 abbrev pub JudgesText : Line → FileRead → Decision → Type 0
 JudgesText l read d = Runs l read d ⊎ Refuses read d
 
--- What a command and a file that was read come to. `old` and `new` are the names of failed reads before and after.
-pub record JudgesFile (content : List ℕ → Content) (old new : List (List ℕ)) (l : Line) (d : Decision) : Type 0 where
-  pub read : FileRead
-  pub reads_as : ReadsAs (content l.file) read
-  pub text : JudgesText l read d
-  pub no_fault : new ≡ old
+-- what a call did to the files: what is under each name, and the names of the reads and of the failed reads, before and after
+pub record FilesChange : Type 0 where
+  pub content : List ℕ → Content
+  pub reads_before : List (List ℕ)
+  pub reads_after : List (List ℕ)
+  pub failed_before : List (List ℕ)
+  pub failed_after : List (List ℕ)
 
--- What a command comes to.
-pub data Judges (content : List ℕ → Content) (old new : List (List ℕ)) (l : Line) (d : Decision) : Type 0 where
-  file_read : JudgesFile content old new l d → Judges content old new l d
-  file_failed : new ≡ old ++ l.file ∷ [] → d ≡ file_fault_decision → Judges content old new l d
-  memory_failed : new ≡ old → d ≡ memory_decision → Judges content old new l d
+abbrev pub files_change : {F : Type 0} → (F → List ℕ → Content) → (reads failed : F → List (List ℕ)) → F → F → FilesChange
+files_change content reads failed before after = record {
+  content = content before;
+  reads_before = reads before;
+  reads_after = reads after;
+  failed_before = failed before;
+  failed_after = failed after;
+}
+
+-- no file was read
+abbrev pub ReadsNothing : FilesChange → Type 0
+ReadsNothing files = files.reads_after ≡ files.reads_before
+
+-- the file of this name was read once, and no other
+abbrev pub ReadsOnce : FilesChange → List ℕ → Type 0
+ReadsOnce files name = files.reads_after ≡ files.reads_before ++ name ∷ []
+
+-- no read failed
+abbrev pub NoReadFailed : FilesChange → Type 0
+NoReadFailed files = files.failed_after ≡ files.failed_before
+
+-- one read failed, that of this name
+abbrev pub OneReadFailed : FilesChange → List ℕ → Type 0
+OneReadFailed files name = files.failed_after ≡ files.failed_before ++ name ∷ []
+
+-- What a command and a file that was read come to.
+pub record JudgesFile (files : FilesChange) (l : Line) (d : Decision) : Type 0 where
+  pub read : FileRead
+  pub reads_as : ReadsAs (files.content l.file) read
+  pub text : JudgesText l read d
+  pub once : ReadsOnce files l.file
+  pub no_fault : NoReadFailed files
+
+-- What a command comes to. When memory runs out the file may be unread.
+pub data Judges (files : FilesChange) (l : Line) (d : Decision) : Type 0 where
+  file_read : JudgesFile files l d → Judges files l d
+  file_failed : ReadsOnce files l.file → OneReadFailed files l.file → d ≡ file_fault_decision → Judges files l d
+  memory_failed : ReadsNothing files ⊎ ReadsOnce files l.file → NoReadFailed files → d ≡ memory_decision → Judges files l d
 
 -- What the words come to: words that are no command are answered by the usage line.
-abbrev pub Decides : (List ℕ → Content) → List (List ℕ) → List (List ℕ) → Option Line → Decision → Type 0
-Decides content old new None d = (new ≡ old) × (d ≡ bad_words_decision)
-Decides content old new (Some l) d = Judges content old new l d
+abbrev pub Decides : FilesChange → Option Line → Decision → Type 0
+Decides files None d = ReadsNothing files × NoReadFailed files × (d ≡ bad_words_decision)
+Decides files (Some l) d = Judges files l d
 
 -- what a call did to a sink: the bytes that it took, where they are observable, and its count of faults
 pub record SinkChange : Type 0 where
@@ -135,7 +169,7 @@ pub data Delivers (d : Decision) (result : Status) (out err : SinkChange) : Type
   err_failed : result ≡ WriteFault → TookAll out d.output → TookFront err d.text → Delivers d result out err
 
 -- The whole answer: a decision, and its delivery.
-pub record Answers (words : Option Line) (content : List ℕ → Content) (old new : List (List ℕ)) (result : Status) (out err : SinkChange) : Type 0 where
+pub record Answers (words : Option Line) (files : FilesChange) (result : Status) (out err : SinkChange) : Type 0 where
   pub decision : Decision
-  pub decided : Decides content old new words decision
+  pub decided : Decides files words decision
   pub delivered : Delivers decision result out err

@@ -4,6 +4,7 @@ pub mod Decided
 pub mod Detection
 pub mod Line
 pub mod LineView
+pub mod Lines
 pub mod Machine
 pub mod Program
 pub mod Promises

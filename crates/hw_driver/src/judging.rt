@@ -1,10 +1,10 @@
-ghost use Rattle.std.specs.Prelude.{◌≡◌, ◌≤◌, ◌^◌, length, IfOk, Err, ◌++◌, ◌∷◌, []};
-ghost use Rattle.hw_ports.specs.declared.ports.FileError.TheVariants.{Failed, OutOfMemory as NoMemory};
+ghost use Rattle.std.specs.Prelude.{◌≡◌, ◌≤◌, ◌^◌, length, IfOk, []};
+ghost use Rattle.hw_ports.specs.Content.{AddsRead, failed_after};
 ghost use Rattle.hw_driver.specs.Line.{line};
 ghost use Rattle.hw_driver.specs.LineView.{texts, line_view};
 ghost use Rattle.hw_driver.specs.Decided.{decision_view};
 ghost use Rattle.hw_driver.specs.Views.{ran_view};
-ghost use Rattle.hw_driver.specs.Answer.{Decides, JudgesFile, JudgesText, Whole, ending_decision, refused_decision, given_word, tag_under};
+ghost use Rattle.hw_driver.specs.Answer.{Decides, files_change, JudgesFile, JudgesText, Whole, ending_decision, refused_decision, given_word, tag_under};
 
 use crate::closing::{ended_text, report_text, unsupported_text};
 use crate::decision::{Decision, Text};
@@ -93,9 +93,9 @@ fn judge_file<F: Files>(
     command: &Command<'_>,
     files: &mut F,
 ) -> Result<Decision, FileError>
-    ensures judged { IfOk result (λ d. JudgesFile (F.content files.old) (F.failed files.old) (F.failed files.new) (line_view command.now) (decision_view d)) }
-    ensures failed { result ≡ Err Failed → F.failed files.new ≡ F.failed files.old ++ command.now.file.now ∷ [] }
-    ensures memory { result ≡ Err NoMemory → F.failed files.new ≡ F.failed files.old }
+    ensures judged { IfOk result (λ d. JudgesFile (files_change F.content F.reads F.failed files.old files.new) (line_view command.now) (decision_view d)) }
+    ensures reads { AddsRead result (F.reads files.old) (F.reads files.new) command.now.file.now }
+    ensures failed { F.failed files.new ≡ failed_after result (F.failed files.old) command.now.file.now }
 {
     let mut text = Vec::new(alloc);
     let judged = match files.read(alloc, command.file, TEXT_LIMIT, &mut text) {
@@ -111,7 +111,7 @@ fn judge_file<F: Files>(
 
 /// What the words come to.
 pub fn decide<F: Files>(alloc: Global, words: &[String], files: &mut F) -> Decision
-    ensures { Decides (F.content files.old) (F.failed files.old) (F.failed files.new) (line (texts words.now)) (decision_view result) }
+    ensures { Decides (files_change F.content F.reads F.failed files.old files.new) (line (texts words.now)) (decision_view result) }
 {
     let Some(command) = line_of(words) else {
         return plain_decision(alloc, Status::BadWords, Text::Usage);

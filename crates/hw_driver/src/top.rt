@@ -3,8 +3,9 @@ ghost use Rattle.hw_ports.specs.Content.{Bytes};
 ghost use Rattle.hw_driver.specs.Line.{Line, line};
 ghost use Rattle.hw_driver.specs.LineView.{texts};
 ghost use Rattle.hw_driver.specs.Program.{Program};
-ghost use Rattle.hw_driver.specs.Answer.{Answers, IsAccepted, read_of, sink_change, tag_under};
-ghost use Rattle.hw_driver.specs.Promises.{AnswersRises, Closes, HadNoFault, HasItsCause, IsExact};
+ghost use Rattle.hw_driver.specs.Answer.{Answers, IsAccepted, files_change, read_of, sink_change, tag_under};
+ghost use Rattle.hw_driver.specs.Lines.{GivesEach, IsLine};
+ghost use Rattle.hw_driver.specs.Promises.{AnswersRises, Closes, HadNoFault, HasItsCause, IsExact, ReadsItsFile};
 ghost use Rattle.hw_driver.specs.Detection.{Detects};
 
 use crate::delivery::deliver;
@@ -21,8 +22,9 @@ fn answer<F: Files, O: Sink, E: Sink>(
     out: &mut O,
     err: &mut E,
 ) -> Status
-    ensures { Answers (line (texts words.now)) (F.content files.old) (F.failed files.old) (F.failed files.new) result
+    ensures answers { Answers (line (texts words.now)) (files_change F.content F.reads F.failed files.old files.new) result
         (sink_change O.taken O.faults out.old out.new) (sink_change E.taken E.faults err.old err.new) }
+    ensures lines { GivesEach IsLine (E.pieces err.old) (E.pieces err.new) }
 {
     let decision = decide(alloc, words, files);
     deliver(&decision, out, err)
@@ -44,34 +46,41 @@ pub fn hwasan<F: Files, I: Source, O: Sink, E: Sink>(
     err: &mut E,
 ) -> Status
     // What is decided on by the words and the file, and how it is delivered.
-    ensures answers { Answers (line (texts words.now)) (F.content files.old) (F.failed files.old) (F.failed files.new) result
+    ensures answers { Answers (line (texts words.now)) (files_change F.content F.reads F.failed files.old files.new) result
         (sink_change O.taken O.faults out.old out.new) (sink_change E.taken E.faults err.old err.new) }
 
     // No input is read.
     ensures input { input.new ≡ input.old }
 
+    // The file of a command is read once, and nothing else is.
+    ensures reads { ReadsItsFile (line (texts words.now)) (files_change F.content F.reads F.failed files.old files.new)
+        (sink_change O.taken O.faults out.old out.new) (sink_change E.taken E.faults err.old err.new) result }
+
     // Each answer has its cause, whatever is observable.
-    ensures cause { HasItsCause (line (texts words.now)) (F.content files.old) (F.failed files.old) (F.failed files.new)
+    ensures cause { HasItsCause (line (texts words.now)) (files_change F.content F.reads F.failed files.old files.new)
         (sink_change O.taken O.faults out.old out.new) (sink_change E.taken E.faults err.old err.new) result }
 
     // No fault is passed over.
-    ensures rises { AnswersRises (line (texts words.now)) (F.failed files.old) (F.failed files.new)
+    ensures rises { AnswersRises (line (texts words.now)) (files_change F.content F.reads F.failed files.old files.new)
         (sink_change O.taken O.faults out.old out.new) (sink_change E.taken E.faults err.old err.new) result }
 
     // Without a fault and with enough memory, the answer and the bytes are those of the words and the text.
-    ensures exact { HadNoFault (line (texts words.now)) (F.failed files.old) (F.failed files.new)
+    ensures exact { HadNoFault (line (texts words.now)) (files_change F.content F.reads F.failed files.old files.new)
         (sink_change O.taken O.faults out.old out.new) (sink_change E.taken E.faults err.old err.new) result
-        → IsExact (line (texts words.now)) (F.content files.old) result
+        → IsExact (line (texts words.now)) (files_change F.content F.reads F.failed files.old files.new) result
         (sink_change O.taken O.faults out.old out.new) (sink_change E.taken E.faults err.old err.new) }
 
     // With a fault or without memory, the bytes are a front of those, and the closing line tells which.
-    ensures closing { Closes (line (texts words.now)) (F.content files.old) (F.failed files.old) (F.failed files.new)
+    ensures closing { Closes (line (texts words.now)) (files_change F.content F.reads F.failed files.old files.new)
         (sink_change O.taken O.faults out.old out.new) (sink_change E.taken E.faults err.old err.new) result }
+
+    // Each piece that is written to `err` is a line, or the rest of one.
+    ensures lines { GivesEach IsLine (E.pieces err.old) (E.pieces err.new) }
 
     // A report comes exactly at the first violation, and is of that access.
     ensures detects { (l : Line) (bytes : List ℕ) (p : Program) → line (texts words.now) ≡ Some l
         → F.content files.old l.file ≡ Bytes bytes → IsAccepted (read_of bytes) p
-        → HadNoFault (line (texts words.now)) (F.failed files.old) (F.failed files.new)
+        → HadNoFault (line (texts words.now)) (files_change F.content F.reads F.failed files.old files.new)
         (sink_change O.taken O.faults out.old out.new) (sink_change E.taken E.faults err.old err.new) result
         → Detects (tag_under l) p result (sink_change O.taken O.faults out.old out.new) (sink_change E.taken E.faults err.old err.new) }
 {

@@ -1,5 +1,5 @@
 -- The front of what is left, and what is left after it.
-use Rattle.std.proofs.Common.{◌≡◌, ℕ, ◌+◌, ◌-◌, List, ◌++◌, length, take, drop, sym, ◌∙◌}
+use Rattle.std.proofs.Common.{◌≡◌, ℕ, ◌+◌, ◌-◌, List, ◌++◌, length, take, drop, sym}
 use Rattle.std.proofs.lemmas.List.{drop-drop, take-append-drop, length-drop}
 use Rattle.std.proofs.Math.Seq.{take-length}
 

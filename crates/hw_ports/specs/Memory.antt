@@ -1,5 +1,5 @@
 -- Ports over memory: what they hold, and what a call does.
-use Rattle.std.specs.Prelude.{◌≡◌, ℕ, ◌-◌, ◌<◌, ◌≤◌, min, List, [], ◌∷◌, ◌++◌, length, take, drop, if◌then◌else◌, ◌==◌, ◌||◌, Bool, IsTrue, Some, None, is_none, find}
+use Rattle.std.specs.Prelude.{ℕ, ◌-◌, min, List, ◌++◌, length, take, drop, if◌then◌else◌, ◌==◌, ◌||◌, Bool, IsTrue, Some, None, is_none, find}
 use Rattle.std.specs.Str.{bytes_eq}
 use Rattle.std.specs.declared.option.Option.{Option}
 use Rattle.hw_ports.specs.Calls.{is_listed, one_more}
@@ -74,9 +74,10 @@ content_of (Some file) = Bytes file.text
 abbrev pub content_in : List StoredFile → List ℕ → Content
 content_in files name = content_of (first_of files name)
 
--- files by their names: the reads that fail, the names whose reads failed, and how many reads there were
+-- files by their names: the names that were read, those whose reads failed, the reads that fail, and how many reads there were
 pub record FilesState : Type 0 where
   pub files : List StoredFile
+  pub reads : List (List ℕ)
   pub failed : List (List ℕ)
   pub failing : List ℕ
   pub calls : ℕ

@@ -1,7 +1,7 @@
 ghost use Rattle.std.specs.Prelude.{◌≡◌, ℕ, List, [], ◌∷◌, ◌++◌, OnOk, OnErr, Err};
 ghost use Rattle.std.specs.Option.{option_copied};
 ghost use Rattle.hw_ports.specs.Calls.{one_more};
-ghost use Rattle.hw_ports.specs.Content.{Reads, failed_after, Bytes};
+ghost use Rattle.hw_ports.specs.Content.{AddsRead, Reads, failed_after, Bytes};
 ghost use Rattle.hw_ports.specs.Memory.{FilesState, FileFails, content_in, first_of};
 ghost use Rattle.hw_ports.specs.declared.ports.FileError.TheVariants.{Failed};
 
@@ -15,6 +15,7 @@ use std::marker::Model;
 #[derive(Drop)]
 pub struct MemFiles {
     files: Vec<StoredFile>,
+    reads: Vec<ByteList>,
     failed: Vec<ByteList>,
     fail: CallList,
     calls: u64,
@@ -23,16 +24,23 @@ pub struct MemFiles {
 impl Model for MemFiles {
     ghost Value = { FilesState };
 
-    ghost view = { λ f. record { files = f.files.items; failed = f.failed.items; failing = f.fail; calls = f.calls } };
+    ghost view = { λ f. record {
+      files = f.files.items;
+      reads = f.reads.items;
+      failed = f.failed.items;
+      failing = f.fail;
+      calls = f.calls;
+    } };
 }
 
 impl MemFiles {
     /// No file. The reads of `fail` fail, counted from 1. It takes no memory.
     pub fn new(alloc: Global, fail: CallList) -> MemFiles
-        ensures { result ≡ record { files = []; failed = []; failing = fail; calls = 0 } }
+        ensures { result ≡ record { files = []; reads = []; failed = []; failing = fail; calls = 0 } }
     {
         MemFiles {
             files: Vec::new(alloc),
+            reads: Vec::new(alloc),
             failed: Vec::new(alloc),
             fail,
             calls: 0,
@@ -62,6 +70,8 @@ impl MemFiles {
 impl Files for MemFiles {
     ghost content = { λ f name. content_in f.files name };
 
+    ghost reads = { λ f. f.reads };
+
     ghost failed = { λ f. f.failed };
 
     /// Fails exactly at a listed read and for a name that was not added.
@@ -74,6 +84,7 @@ impl Files for MemFiles {
     ) -> Result<FileText, FileError>
         requires { into.old.items ≡ [] }
         ensures bytes { Reads (content_in self.old.files name.now) limit result into.new.items }
+        ensures reads { AddsRead result self.old.reads self.new.reads name.now }
         ensures failed { self.new.failed ≡ failed_after result self.old.failed name.now }
         ensures content { (other : List ℕ) → content_in self.new.files other ≡ content_in self.old.files other }
         ensures listed { result ≡ Err Failed → FileFails self.old name.now }
@@ -83,14 +94,16 @@ impl Files for MemFiles {
         ensures calls { self.new.calls ≡ one_more self.old.calls }
     {
         self.calls = self.calls.saturating_add(1);
-        let entry = reserved_entry(&mut self.failed, alloc, name.as_bytes())?;
+        let failed = reserved_entry(&mut self.failed, alloc, name.as_bytes())?;
+        let read = reserved_entry(&mut self.reads, alloc, name.as_bytes())?;
+        self.reads.push(read).unwrap();
         if self.fail.lists(self.calls) {
-            self.failed.push(entry).unwrap();
+            self.failed.push(failed).unwrap();
             return Err(FileError::Failed);
         }
         match find(&self.files, name.as_bytes()) {
             None => {
-                self.failed.push(entry).unwrap();
+                self.failed.push(failed).unwrap();
                 Err(FileError::Failed)
             }
             Some(file) => copy_text(file.text.as_slice(), limit, into),

@@ -1,7 +1,8 @@
-ghost use Rattle.std.specs.Prelude.{◌≡◌, ◌<◌, ◌≤◌, ℕ, [], length, Ok, Some, IfOk, OnErr, OnOk, vec_len, vec_capacity};
+ghost use Rattle.std.specs.Prelude.{◌≡◌, ◌<◌, ◌≤◌, ℕ, [], length, Ok, Some, None, IfOk, OnErr, OnOk, vec_len, vec_capacity};
 ghost use Rattle.std.specs.Io.{WritesAtMost};
 ghost use Rattle.std.specs.Io.KnownBytes.{WriteAppends};
 ghost use Rattle.hw_ports.specs.Causes.{HasCause};
+ghost use Rattle.hw_ports.specs.Written.{AddsPiece};
 ghost use Rattle.hw_ports.specs.Memory.{SinkState, SinkFails, sink_count, sink_after};
 
 use crate::{CallList, Failed, Sink};
@@ -72,6 +73,7 @@ impl Sink for MemSink {
         ensures some { IfOk result (λ count. 0 < length piece.now → 0 < count) }
         ensures empty { length piece.now ≡ 0 → result ≡ Ok 0 }
         ensures bytes { WriteAppends (Some self.old.taken) (Some self.new.taken) result piece.now }
+        ensures pieces { AddsPiece None None piece.now }
         ensures cause { HasCause self.old.faults self.new.faults result }
         ensures listed { OnErr result (SinkFails self.old) }
         ensures unlisted { OnOk result (0 < length piece.now → SinkFails self.old → ⊥) }

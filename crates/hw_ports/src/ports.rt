@@ -1,10 +1,11 @@
-ghost use Rattle.std.specs.Prelude.{◌≡◌, ◌<◌, ℕ, List, [], length, Ok, IfOk};
+ghost use Rattle.std.specs.Prelude.{◌≡◌, ◌<◌, ℕ, List, [], length, None, Ok, IfOk};
 ghost use Rattle.std.specs.declared.option.Option.{Option};
 ghost use Rattle.std.specs.Io.{ReadsAtMost, WritesAtMost};
 ghost use Rattle.std.specs.Io.KnownBytes.{ReadConsumes, WriteAppends};
 ghost use Rattle.hw_ports.specs.declared.ports.FileError.TheVariants.{OutOfMemory as NoMemory};
 ghost use Rattle.hw_ports.specs.Causes.{HasCause};
-ghost use Rattle.hw_ports.specs.Content.{Content, Reads, failed_after};
+ghost use Rattle.hw_ports.specs.Content.{AddsRead, Content, Reads, failed_after};
+ghost use Rattle.hw_ports.specs.Written.{AddsPiece};
 
 use std::alloc::{AllocError, Global};
 use thiserror::Error;
@@ -45,13 +46,17 @@ pub trait Files {
     /// What stands under a name: these bytes, nothing, or something that can't be observed.
     ghost content: { Self → List ℕ → Content };
 
+    /// The names that were read, the oldest first. It only grows; a read that ends because memory ran out may leave no
+    /// name, and has read nothing then.
+    ghost reads: { Self → List (List ℕ) };
+
     /// The names whose reads failed, the oldest first. It only grows, and a name's count of faults is how often it
     /// stands there.
     ghost failed: { Self → List (List ℕ) };
 
     /// Reads the file of a name into `into`, which is empty. `Longer` comes exactly where the read doesn't fail and
-    /// the file has more than `limit` bytes. A name under which nothing stands is `Failed`. Memory for the list of
-    /// failed names is taken before the read. With `Longer` or an error nothing is said of what `into` holds.
+    /// the file has more than `limit` bytes. A name under which nothing stands is `Failed`. Memory for the lists of
+    /// names is taken before the read. With `Longer` or an error nothing is said of what `into` holds.
     fn read(
         &mut self,
         alloc: Global,
@@ -61,6 +66,7 @@ pub trait Files {
     ) -> Result<FileText, FileError>
         requires { into.old.items ≡ [] }
         ensures bytes { Reads (content self.old name.now) limit result into.new.items }
+        ensures reads { AddsRead result (reads self.old) (reads self.new) name.now }
         ensures failed { failed self.new ≡ failed_after result (failed self.old) name.now }
         ensures content { (other : List ℕ) → content self.new other ≡ content self.old other };
 }
@@ -87,6 +93,9 @@ pub trait Sink {
     /// The bytes that it took, where that is observable.
     ghost taken: { Self → Option (List ℕ) };
 
+    /// The pieces that it was given, the oldest first, when that is observable.
+    ghost pieces: { Self → Option (List (List ℕ)) } = { λ _. None };
+
     /// How often a write failed. It never falls.
     ghost faults: { Self → ℕ };
 
@@ -97,5 +106,6 @@ pub trait Sink {
         ensures some { IfOk result (λ count. 0 < length piece.now → 0 < count) }
         ensures empty { length piece.now ≡ 0 → result ≡ Ok 0 }
         ensures bytes { WriteAppends (taken self.old) (taken self.new) result piece.now }
+        ensures pieces { AddsPiece (pieces self.old) (pieces self.new) piece.now }
         ensures cause { HasCause (faults self.old) (faults self.new) result };
 }

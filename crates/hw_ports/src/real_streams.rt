@@ -1,36 +1,30 @@
-ghost use Rattle.std.specs.Prelude.{◌≡◌, ℕ, None};
+ghost use Rattle.std.specs.Prelude.{◌≡◌};
 
 use crate::{Failed, Sink, Source};
 use std::io::{Read, Write};
-use std::marker::Model;
 
-/// Input from any reader of the host. The bytes that are left aren't observable: that they are the reader's is
-/// trusted. Contracts see the count of faults.
+/// Input from any reader. What is left is what the reader says that it has left: over memory these are its bytes, over
+/// the host they aren't observable.
 #[derive(Drop)]
 pub struct RealIn<R: Read> {
     inner: R,
     faults: u64,
 }
 
-impl<R: Read> Model for RealIn<R> {
-    ghost Value = { ℕ };
-
-    ghost view = { λ s. s.faults };
-}
-
 impl<R: Read> RealIn<R> {
     /// The reader's bytes as input, with no fault yet.
     pub fn new(inner: R) -> RealIn<R>
-        ensures { result ≡ 0 }
+        ensures left { ⟦<RealIn<R> as Source>⟧.left result ≡ R.remaining inner }
+        ensures faults { ⟦<RealIn<R> as Source>⟧.faults result ≡ 0 }
     {
         RealIn { inner, faults: 0 }
     }
 }
 
 impl<R: Read> Source for RealIn<R> {
-    ghost left = { λ _. None };
+    ghost left = { λ s. R.remaining s.inner };
 
-    ghost faults = { λ s. s };
+    ghost faults = { λ s. s.faults };
 
     fn read(&mut self, into: &mut [u8]) -> Result<usize, Failed> {
         if into.is_empty() {
@@ -46,33 +40,28 @@ impl<R: Read> Source for RealIn<R> {
     }
 }
 
-/// Output to any writer of the host. The bytes that it took aren't observable: that the writer keeps them is trusted.
-/// Contracts see the count of faults.
+/// Output to any writer. What it took is what the writer says that it holds: over memory these are its bytes, over the
+/// host they aren't observable.
 #[derive(Drop)]
 pub struct RealOut<W: Write> {
     inner: W,
     faults: u64,
 }
 
-impl<W: Write> Model for RealOut<W> {
-    ghost Value = { ℕ };
-
-    ghost view = { λ s. s.faults };
-}
-
 impl<W: Write> RealOut<W> {
     /// The writer as output, with no fault yet.
     pub fn new(inner: W) -> RealOut<W>
-        ensures { result ≡ 0 }
+        ensures taken { ⟦<RealOut<W> as Sink>⟧.taken result ≡ W.contents inner }
+        ensures faults { ⟦<RealOut<W> as Sink>⟧.faults result ≡ 0 }
     {
         RealOut { inner, faults: 0 }
     }
 }
 
 impl<W: Write> Sink for RealOut<W> {
-    ghost taken = { λ _. None };
+    ghost taken = { λ s. W.contents s.inner };
 
-    ghost faults = { λ s. s };
+    ghost faults = { λ s. s.faults };
 
     /// A write that took nothing of a piece that isn't empty is a fault too.
     fn write(&mut self, piece: &[u8]) -> Result<usize, Failed> {

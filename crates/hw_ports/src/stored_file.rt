@@ -10,17 +10,17 @@ pub struct StoredFile {
     pub text: ByteList,
 }
 
-/// A copy of a name, and room for it in the list of failed names.
+/// A copy of a name, and room for it in a list of names.
 pub fn reserved_entry(
-    failed: &mut Vec<ByteList>,
+    names: &mut Vec<ByteList>,
     alloc: Global,
     name: &[u8],
 ) -> Result<ByteList, AllocError>
-    ensures items { failed.new.items ≡ failed.old.items }
+    ensures items { names.new.items ≡ names.old.items }
     ensures entry { IfOk result (λ entry. entry ≡ name.now) }
-    ensures room { OnOk result (vec_len failed.new + 1 ≤ vec_capacity failed.new) }
+    ensures room { OnOk result (vec_len names.new + 1 ≤ vec_capacity names.new) }
 {
     let entry = Vec::from_slice(alloc, name)?;
-    failed.reserve(1)?;
+    names.reserve(1)?;
     Ok(ByteList::from_vec(entry))
 }

@@ -1,5 +1,8 @@
 //! Each call once with ample memory, and the adapters over the host.
+mod counting_host;
+
 use super::*;
+use counting_host::CountingHost;
 use hw_base::OutOfMemory;
 use std::alloc::Global;
 use std::io::{ErrorKind, Read, Write};
@@ -76,8 +79,23 @@ fn files_of_the_host_are_read(rt: HostRuntime) -> Result<(), Fail> {
         (name, u64::MAX, Ok(FileText::Whole), "text"),
         ("hw_ports_test/none", 4, Err(FileError::Failed), ""),
         ("", 4, Err(FileError::Failed), ""),
+        (".", 4, Err(FileError::Failed), ""),
     ];
     expect_files(&rt, &mut files, &rows);
+    fs::remove_file(&rt, name)?;
+    Ok(())
+}
+
+#[test]
+fn a_read_opens_the_file_of_the_host_once(rt: HostRuntime) -> Result<(), Fail> {
+    let name = "hw_ports_opened.txt";
+    fs::write(&rt, name, b"text".as_slice())?;
+    let host = CountingHost::new(&rt);
+    let mut files = RealFiles::new(rt.alloc(), &host);
+    for (name, limit, opened) in [(name, 4, 1), (name, 3, 2), ("hw_ports_test/none", 4, 3)] {
+        let _ = read_file(&mut files, rt.alloc(), name, limit);
+        assert_eq!(rt; host.opened(), opened, "{name}, {limit}");
+    }
     fs::remove_file(&rt, name)?;
     Ok(())
 }

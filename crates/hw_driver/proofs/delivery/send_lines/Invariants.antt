@@ -1,11 +1,13 @@
 use Rattle.std.proofs.Common.{◌≡◌, ◌≤◌, ◌-◌, length, take}
 use Rattle.std.specs.Io.KnownBytes.{Appends}
+use Rattle.hw_driver.specs.Lines.{EndsAtLf, GivesEach, IsLine}
 use Rattle.hw_driver.proofs.delivery.send_lines.Given as goal
 
 abbrev pub invariant-loop-at : goal.invariant-loop-at
 invariant-loop-at g l = record {
   within : l.at ≤ length l.text;
   taken : Appends (g.S.Sink.taken l.fn.sink) (g.S.Sink.taken l.sink) (take l.at l.text);
+  lines : EndsAtLf l.text → GivesEach IsLine (g.S.Sink.pieces l.fn.sink) (g.S.Sink.pieces l.sink);
   quiet : g.S.Sink.faults l.sink ≡ g.S.Sink.faults l.fn.sink;
 }
 

@@ -3,22 +3,26 @@ use Rattle.hw_driver.specs.Answer.{read_of, tag_under}
 use Rattle.hw_driver.proofs.Causes.{Answers-cause, Answers-rises}
 use Rattle.hw_driver.proofs.ClosingBytes.{Answers-closes}
 use Rattle.hw_driver.proofs.Exactness.{Answers-exact}
+use Rattle.hw_driver.proofs.FileReads.{Answers-reads}
 use Rattle.hw_driver.proofs.Detected.{Shows-detects, accepted_program}
 use Rattle.hw_driver.proofs.top.hwasan.Goals as goal
 
+pub returns-clause-reads : goal.returns-clause-reads
+returns-clause-reads g c = Answers-reads _ _ _ _ _ c.answer.ensures.answers
+
 pub returns-clause-cause : goal.returns-clause-cause
-returns-clause-cause g c = Answers-cause _ _ _ _ _ _ _ c.answer.ensures
+returns-clause-cause g c = Answers-cause _ _ _ _ _ c.answer.ensures.answers
 
 pub returns-clause-rises : goal.returns-clause-rises
-returns-clause-rises g c = Answers-rises _ _ _ _ _ _ _ c.answer.ensures
+returns-clause-rises g c = Answers-rises _ _ _ _ _ c.answer.ensures.answers
 
 pub returns-clause-exact : goal.returns-clause-exact
-returns-clause-exact g c = Answers-exact _ _ _ _ _ _ _ c.answer.ensures
+returns-clause-exact g c = Answers-exact _ _ _ _ _ c.answer.ensures.answers
 
 pub returns-clause-closing : goal.returns-clause-closing
-returns-clause-closing g c = Answers-closes _ _ _ _ _ _ _ c.answer.ensures
+returns-clause-closing g c = Answers-closes _ _ _ _ _ c.answer.ensures.answers
 
 pub returns-clause-detects : goal.returns-clause-detects
 returns-clause-detects g c = λ l bytes p some told accepted quiet.
     Shows-detects (tag_under l) p _ _ _ (accepted_program (read_of bytes) p accepted) (omega arith) (omega arith)
-    ((Answers-exact _ _ _ _ _ _ _ c.answer.ensures quiet).run l bytes p some told accepted)
+    ((Answers-exact _ _ _ _ _ c.answer.ensures.answers quiet).run l bytes p some told accepted)

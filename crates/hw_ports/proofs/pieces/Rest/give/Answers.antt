@@ -1,4 +1,4 @@
-use Rattle.std.proofs.Common.{◌≡◌, sym, ◌∙◌}
+use Rattle.std.proofs.Common.{sym, ◌∙◌}
 use Rattle.hw_ports.proofs.FrontAndRest.{front_and_rest}
 use Rattle.hw_ports.proofs.pieces.Rest.give.Goals as goal
 

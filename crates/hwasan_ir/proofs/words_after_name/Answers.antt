@@ -1,0 +1,9 @@
+use Rattle.std.proofs.Common.{rules}
+use Rattle.std.specs.Vec.Iter.{into_iter_items}
+use Rattle.std.proofs.lemmas.Iterator.{items_from_collect}
+use Rattle.std.proofs.lemmas.Iterator.Adapters.{YieldsList-from_vec, YieldsList-from_skip}
+use Rattle.hwasan_ir.proofs.words_after_name.Goals as goal
+
+pub returns : goal.returns
+returns c = items_from_collect c.collect.result c.collect.ensures.ran
+    (YieldsList-from_skip 1 (YieldsList-from_vec (into_iter_items c.args.all) (search rules) (search rules)) c.skip.ensures.count)
