@@ -12,8 +12,8 @@ pub record ChainEntry : Type 0 where
 abbrev pub is_entry : Site → ℕ → ChainEntry → Bool
 is_entry site rest entry = entry.site.func == site.func && entry.site.inst == site.inst && entry.rest == rest
 
--- the place of an entry in a table from this place on, or none where it isn't there
-unfoldable pub entry_from : List ChainEntry → Site → ℕ → ℕ → Option ℕ
+-- the place of an entry in a table from this place on, or none if it isn't there
+unfoldable pub entry_from : List ChainEntry → Site → (rest place : ℕ) → Option ℕ
 entry_from [] site rest place = None
 entry_from (entry ∷ table) site rest place =
     elim (is_entry site rest entry) [ true ↦ Some place | false ↦ entry_from table site rest (place + 1) ]
@@ -23,7 +23,7 @@ pub record Numbered : Type 0 where
   pub table : List ChainEntry
   pub number : ℕ
 
--- the table where the entry is at this place, or else with the entry behind the others
+-- the table if the entry is at this place, or else the table with the entry after the others
 abbrev pub numbered : List ChainEntry → Site → ℕ → Option ℕ → Numbered
 numbered table site rest (Some place) = record { table = table; number = place + 1 }
 numbered table site rest None =
@@ -39,7 +39,7 @@ part_of table zero = None
 part_of table (suc place) = slice_get table place
 
 -- the sites of a chain, innermost first, of so many at most
-unfoldable pub chain_within : List ChainEntry → ℕ → ℕ → List Site
+unfoldable pub chain_within : List ChainEntry → (most number : ℕ) → List Site
 chain_within table zero number = []
 chain_within table (suc most) number =
     elim (part_of table number) [ None ↦ [] | Some entry ↦ entry.site ∷ chain_within table most entry.rest ]

@@ -14,17 +14,8 @@ pub fn pushing_puts_a_site_in_front()
     ensures start { IsChainTable [] }
 {}
 
-/// Two numbers of a table are equal where their chains are.
+/// Two numbers of a table are equal if their chains are.
 pub fn equal_numbers_are_equal_chains()
     ensures { (table : List ChainEntry) (number other : ℕ) → IsChainTable table → number ≤ length table → other ≤ length table
         → chain_of table number ≡ chain_of table other → number ≡ other }
-{}
-
-/// A site in front of the empty chain, and another in front of that; putting the first there once more gives its number.
-pub fn chains_by_example()
-    ensures first { (pushed [] 0 (record { func = 1; inst = 2 })).number ≡ 1 }
-    ensures second { chain_of (pushed (pushed [] 0 (record { func = 1; inst = 2 })).table 1 (record { func = 0; inst = 5 })).table 2
-        ≡ record { func = 0; inst = 5 } ∷ record { func = 1; inst = 2 } ∷ [] }
-    ensures again { (pushed (pushed (pushed [] 0 (record { func = 1; inst = 2 })).table 1 (record { func = 0; inst = 5 })).table 0 (record { func = 1; inst = 2 })).number
-        ≡ 1 }
 {}

@@ -5,13 +5,15 @@
 #![tactic(auto)]
 
 mod definitions;
+mod examples;
 mod fields;
 mod laws;
 mod nodes;
 mod numbers;
 mod token_tests;
 
-pub use laws::{chains_by_example, equal_numbers_are_equal_chains, pushing_puts_a_site_in_front};
+pub use examples::chains_by_example;
+pub use laws::{equal_numbers_are_equal_chains, pushing_puts_a_site_in_front};
 pub use nodes::read_meta;
 
 #[cfg(test)]

@@ -21,7 +21,7 @@ get-descriptors places layouts globals word k global h =
     ∙ (ap (option_map (λ (numbered : ℕ × GlobalVar). descriptor_of places layouts globals word numbered.0 numbered.1)) (get-enumerate globals 0 k global h)
     ∙ (let e : 0 + k ≡ k = omega arith in ap (λ (n : ℕ). Some (descriptor_of places layouts globals word n global)) e))
 
--- what stands at a place, and before it, is no more than all
+-- what is at a place, and before it, is no more than all
 sum-before : {A : Type 0} (f : A → ℕ) (xs : List A) (k : ℕ) (x : A) → slice_get xs k ≡ Some x → sum_by f (take k xs) + f x ≤ sum_by f xs
 sum-before f [] k x h = absurd (cc)
 sum-before f (y ∷ ys) zero x h = let same : f y ≡ f x = ap f (cc) in let e = sum_by-cons f y ys in omega arith
@@ -93,7 +93,7 @@ get-enumerate-none [] from k h = refl
 get-enumerate-none (y ∷ ys) from zero h = absurd (cc)
 get-enumerate-none (y ∷ ys) from (suc k) h = get-enumerate-none ys (from + 1) k h
 
--- there is no descriptor where there is no global
+-- there is no descriptor if there is no global
 pub get-descriptors-none : (places : AddressMap) (layouts : List TypeLayout) (globals : List GlobalVar) (word k : ℕ) → slice_get globals k ≡ None → slice_get (descriptors_of places layouts globals word) k ≡ None
 get-descriptors-none places layouts globals word k h =
     slice_get-map (λ (numbered : ℕ × GlobalVar). descriptor_of places layouts globals word numbered.0 numbered.1) (enumerate_from 0 globals) k

@@ -13,7 +13,7 @@ use Rattle.tbi_memory.specs.ObjectMemory.{tag_object}
 use Rattle.global_tags.specs.declared.descriptor.Descriptor.{Descriptor}
 use Rattle.global_tags.specs.GlobalPlaces.{layout_of, descriptors_of, global_number}
 
--- the number that a piece of an initializer stores; a register can't stand there
+-- the number that a piece of an initializer stores; it is never a register
 abbrev pub piece_number : List Descriptor → Operand → ℕ
 piece_number descriptors (Reg r) = 0
 piece_number descriptors (Int n) = n

@@ -38,7 +38,7 @@ layout_of places layouts globals =
       heap = places.heap_length;
     }
 
--- the place of global k, which follows those of its kind that stand before it in the text
+-- the place of global k, which follows those of its kind that come before it in the text
 abbrev pub place_of_global : AddressMap → List TypeLayout → List GlobalVar → ℕ → GlobalVar → ℕ
 place_of_global places layouts globals k global =
     if global.constant then places.globals_at + constants_size layouts (take k globals)

@@ -1,5 +1,5 @@
 //! Global variables and constants in memory: their places, their tags, and their first bytes. The layers above ask for a
-//! global's tagged address, and list globals for reports.
+//! global's tagged address.
 #![tactic(auto)]
 
 mod descriptor;

@@ -1,4 +1,4 @@
--- Laws of the tag rule: nothing refuses an access exactly where each touched granule agrees, and what refuses one is the
+-- Laws of the tag rule: nothing refuses an access exactly if each touched granule agrees, and what refuses one is the
 -- first that doesn't.
 use Rattle.std.proofs.Common.{◌≡◌, ℕ, zero, suc, ◌+◌, ◌-◌, ◌*◌, ◌<◌, ◌≤◌, Bool, true, false, Option, Some, None, refl, sym, ◌∙◌, subst, inl, inr, arith}
 use Rattle.std.specs.Prelude.{◌⊎◌, max, if◌then◌else◌}
@@ -9,12 +9,12 @@ use Rattle.hw_shadow.specs.declared.mismatch.Mismatch.{Mismatch}
 use Rattle.hw_shadow.specs.declared.mismatch.Mismatch.TheVariants.{Tags}
 use Rattle.hw_shadow.specs.TagRule.{tags_agree, granules_touched, end_in_granule, granule_agrees, mismatch_in, first_mismatch, refusing_of, PassesTagRule, IsFirstMismatch}
 
--- a choice of none is none exactly where its test holds
+-- a choice of none is none exactly if its test holds
 chosen-none : (b : Bool) (found : Mismatch) → (if b then None else Some found) ≡ None → b ≡ true
 chosen-none true found h = refl
 chosen-none false found h = cc
 
--- a granule finds nothing exactly where it agrees
+-- a granule finds nothing exactly if it agrees
 pub mismatch_in-none : (number size granule : ℕ) (memory : Option ℕ) (last : ℕ) → mismatch_in number size granule memory last ≡ None → granule_agrees (pointer_tag number) (end_in_granule (address_of number) size granule) memory last ≡ true
 mismatch_in-none number size granule None last h = cc
 mismatch_in-none number size granule (Some memory) last h = chosen-none (tags_agree (pointer_tag number) memory (end_in_granule (address_of number) size granule) last) (Tags (16 * granule) (pointer_tag number) memory last (end_in_granule (address_of number) size granule)) h
@@ -23,7 +23,7 @@ pub mismatch_in-agrees : (number size granule : ℕ) (memory : Option ℕ) (last
 mismatch_in-agrees number size granule None last h = cc
 mismatch_in-agrees number size granule (Some memory) last h = cond-true (tags_agree (pointer_tag number) memory (end_in_granule (address_of number) size granule) last) None (Some (Tags (16 * granule) (pointer_tag number) memory last (end_in_granule (address_of number) size granule))) h
 
--- the first of an answer and a later one
+-- the first of a finding and a later one
 first : Option Mismatch → Option Mismatch → Option Mismatch
 first now later = elim now [ None ↦ later | Some found ↦ Some found ]
 

@@ -1,4 +1,4 @@
--- What stands at a place of a function's code.
+-- What is at a place of a function's code.
 use Rattle.std.proofs.Common.{◌≡◌, ℕ, zero, suc, ◌+◌, ◌<◌, true, false, List, [], ◌∷◌, ◌++◌, length, take, drop, Some, refl, sym, ◌∙◌, ap, arith, zero-add}
 use Rattle.std.specs.Prelude.{slice_get}
 use Rattle.ir_core.specs.declared.operations.Op.{Op}
@@ -43,7 +43,7 @@ code-drop m f func i inst h =
     ∙ (ap (code_from m f func i) (drop-at f.insts i inst h)
     ∙ code_from-cons m f func i inst (drop (suc i) f.insts))
 
--- what stands j places after the beginning of an instruction's code
+-- what is j places after the beginning of an instruction's code
 pub code-get : (m : Module) (f : Function) (func i j : ℕ) (inst : Inst) → slice_get f.insts i ≡ Some inst → slice_get (code_of_function m func f).insts (place_of m f i + j) ≡ slice_get (code_of_instruction m f (record { func = func; inst = i }) inst ++ code_from m f func (suc i) (drop (suc i) f.insts)) j
 code-get m f func i j inst h =
     sym (get-drop (code_of_function m func f).insts (place_of m f i) j)

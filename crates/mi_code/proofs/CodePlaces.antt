@@ -1,4 +1,4 @@
--- Where the code of an instruction stands.
+-- The places of the code of instructions.
 use Rattle.std.proofs.Common.{◌≡◌, refl, ℕ, zero, suc, ◌+◌, List, [], ◌∷◌, ◌++◌, length, map, take, drop, Option, arith, add-zero, ap, sym, ◌∙◌}
 use Rattle.std.proofs.lemmas.List.{length-append, length-map}
 use Rattle.std.proofs.Math.Seq.{drop-append-add}

@@ -1,4 +1,4 @@
--- The edges between blocks, and the moves on them for the phis of the block where they lead (LLVM Language
+-- The edges between blocks, and the moves on them for the phis of the block to which they lead (LLVM Language
 -- Reference, "'phi' Instruction"): all phis are read on the edge, at once.
 use Rattle.std.specs.Prelude.{ℕ, List, [], ◌∷◌, ◌++◌, slice_get, slice_index, Option, Some, None}
 use Rattle.ir_core.specs.declared.operands.Placed.{Placed}

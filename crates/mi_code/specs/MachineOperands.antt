@@ -1,4 +1,4 @@
--- The machine registers and operands that stand for those of the source. A pointer is its 64-bit number, and null is 0.
+-- The machine registers and operands of those of the source. A pointer is its 64-bit number, and null is 0.
 -- This project's choice.
 use Rattle.std.specs.Prelude.{ℕ, zero, suc, ◌*◌, List, [], ◌∷◌, length, map, Option, Some, None}
 use Rattle.ir_core.specs.declared.operands.Operand.{Operand}

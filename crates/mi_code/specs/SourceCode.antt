@@ -1,4 +1,4 @@
--- The machine instruction that stands for a source instruction (LLVM Language Reference, "Instruction Reference"), by cases
+-- The machine instruction of a source instruction (LLVM Language Reference, "Instruction Reference"), by cases
 -- of the instruction. Operands are machine operands, types are their widths and sizes, and blocks are places in the code.
 -- A phi has none: its moves are on the edges. An atomic exchange has the width of the new value.
 use Rattle.std.specs.Prelude.{ℕ, List, Option, Some, None}
@@ -76,7 +76,7 @@ abbrev pub switch_code : Module → Function → List ℕ → ℕ → Placed →
 switch_code m f starts here on other cases =
     machine.Switch (bits_at m on.ty) (operand_of on) (edge_to f starts here other) (case_edges f starts here cases)
 
--- the returned value, where there is one
+-- the returned value, if there is one
 abbrev pub returned : Option Placed → Option MiOperand
 returned None = None
 returned (Some value) = Some (operand_of value)

@@ -1,7 +1,7 @@
 use crate::MiOperand;
 use ir_core::{OwnedList, ValueList};
 
-/// The move of a value into a machine register, which stands for a phi on one edge.
+/// The move of a value into a machine register, which does what a phi does on one edge.
 #[derive(Clone, Copy)]
 pub struct Move {
     pub to: u32,

@@ -1,4 +1,4 @@
--- Laws of frames: where they stand, that leaving undoes entering, and that variables stay inside their frame.
+-- Laws of frames: their places, that leaving undoes entering, and that variables stay inside their frame.
 use Rattle.std.proofs.Common.{◌≡◌, ℕ, zero, suc, ◌+◌, ◌-◌, ◌*◌, ◌/◌, ◌%◌, ◌<◌, ◌≤◌, Bool, true, false, List, [], ◌∷◌, length, refl, ◌∙◌, ap, arith}
 use Rattle.std.specs.Prelude.{slice_get, slice_set, nat_le, unwrap_or, Result, Ok, Err}
 use Rattle.std.proofs.lemmas.List.{length-set}

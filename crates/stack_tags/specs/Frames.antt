@@ -1,4 +1,4 @@
--- The frames of each task: where their variables stand, and the variables' tags (Clang, "Hardware-assisted AddressSanitizer
+-- The frames of each task: the places of their variables, and the variables' tags (Clang, "Hardware-assisted AddressSanitizer
 -- Design Documentation", "Stack"). The places, and what is remembered of ended frames, are this project's choice. A frame
 -- without variables isn't listed. Frames follow each other downwards from the stack's end, so what they take together is how
 -- far the newest one has come.

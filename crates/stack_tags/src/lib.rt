@@ -1,6 +1,5 @@
-//! Frames of variables with tags: where a frame's variables stand and with which tags, what memory is when a function is
-//! entered and left, and which ended frames a task remembers. The layers above ask for a variable's tagged address, and
-//! list living and ended frames for reports.
+//! Frames of variables with tags: the places and tags of a frame's variables, what memory is when a function is
+//! entered and left, and which ended frames a task remembers. The layers above ask for a variable's tagged address.
 #![tactic(auto)]
 
 mod examples;

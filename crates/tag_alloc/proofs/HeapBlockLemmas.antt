@@ -9,7 +9,7 @@ use Rattle.tag_alloc.specs.declared.blocks.Block.{Block}
 use Rattle.tag_alloc.specs.declared.blocks.FreeMismatch.{FreeMismatch}
 use Rattle.tag_alloc.specs.HeapBlocks.{HeapState, with_block, without_block, block_at, mismatch_with, free_mismatch, IsFreeable}
 
--- a block before the others, or behind the first of them
+-- a block before the others, or after the first of them
 put : Bool → Block → Block → List Block → List Block → List Block
 put t block other blocks later = if t then block ∷ other ∷ blocks else other ∷ later
 

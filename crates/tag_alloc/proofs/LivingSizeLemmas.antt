@@ -19,7 +19,7 @@ size_sum-cons block blocks = sum_by-cons (λ (b : Block). rounded_size b.size) b
 
 -- ---- births
 
--- the sum with a block more, by whether it stands before the first one
+-- the sum with a block more, by whether it comes before the first one
 put-sum : (t : Bool) (block other : Block) (blocks later : List Block) → size_sum later ≡ rounded_size block.size + size_sum blocks → size_sum (if t then block ∷ other ∷ blocks else other ∷ later) ≡ rounded_size block.size + size_sum (other ∷ blocks)
 put-sum true block other blocks later h = size_sum-cons block (other ∷ blocks)
 put-sum false block other blocks later h =

@@ -16,8 +16,8 @@ pub struct Freed {
     pub died: u32,
 }
 
-/// What a free finds where it doesn't pass: the tag of its number, and the tag of the living block that begins at the
-/// number's address, or none where no living block begins there.
+/// What a free finds if it doesn't pass: the tag of its number, and the tag of the living block that begins at the
+/// number's address, or none if no living block begins there.
 #[derive(Clone, Copy)]
 pub struct FreeMismatch {
     pub pointer: u8,

@@ -1,5 +1,5 @@
 //! Heap blocks with tags: where a block is born and with which tag, what a free asks of its number, and what memory and
-//! the table of blocks are afterwards. The layers above call these by number, and list living and freed blocks for reports.
+//! the table of blocks are afterwards. The layers above call these by number.
 #![tactic(auto)]
 
 mod blocks;

@@ -46,7 +46,7 @@ byte_at-set_other (r ∷ ranges) a b v h =
     ap (λ (o : Option ℕ). option_or o (byte_at (set_byte ranges a v) b)) (byte_in-set_other r a b v (nat_le r.at a) refl h)
     ∙ ap (option_or (byte_in r b)) (byte_at-set_other ranges a b v h)
 
--- the byte that was set is at its address, where that is mapped
+-- the byte that was set is at its address, if that is mapped
 pub byte_at-set_at : (ranges : List Range) (a v : ℕ) → byte_at (set_byte ranges a v) a ≡ option_map (λ _old. v) (byte_at ranges a)
 unfolding byte_at
 byte_at-set_at [] a v = refl
@@ -87,7 +87,7 @@ write_above ranges a (v ∷ bytes) b h =
     write_above (set_byte ranges a v) (a + 1) bytes b (omega arith)
     ∙ byte_at-set_other ranges a b v (λ e. omega arith)
 
--- a byte that was written is there, where it was mapped
+-- a byte that was written is there, if it was mapped
 pub write_inside : (ranges : List Range) (a : ℕ) (bytes : List ℕ) (i old v : ℕ) → byte_at ranges (a + i) ≡ Some old → slice_get bytes i ≡ Some v → byte_at (write ranges a bytes) (a + i) ≡ Some v
 unfolding write
 write_inside ranges a [] i old v h e = cc

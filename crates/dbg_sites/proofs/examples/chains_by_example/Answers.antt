@@ -1,6 +1,6 @@
 use Rattle.std.proofs.Common.{refl}
 use Rattle.dbg_sites.specs.ChainTable.{entry_from, pushed, chain_within}
-use Rattle.dbg_sites.proofs.laws.chains_by_example.Goals as goal
+use Rattle.dbg_sites.proofs.examples.chains_by_example.Goals as goal
 
 pub returns-clause-first : goal.returns-clause-first
 unfolding entry_from pushed chain_within
