@@ -1,0 +1,9 @@
+pub mod ArithmeticFollows
+pub mod CodeAt
+pub mod ComputingFollows
+pub mod Images
+pub mod OperandImages
+pub mod PlacesTold
+pub mod PlainSteps
+pub mod RegisterImages
+pub mod Steps

@@ -1,0 +1,5 @@
+pub mod Computing
+pub mod Following
+pub mod Images
+pub mod Parts
+pub mod Relation

@@ -1,0 +1,32 @@
+ghost use Rattle.std.specs.Prelude.{◌≡◌, ℕ, true, List, Option, Ok};
+ghost use Rattle.ir_core.specs.declared.ir_module.Function.{Function};
+ghost use Rattle.ir_core.specs.declared.ir_module.Inst.{Inst};
+ghost use Rattle.ir_machine.specs.State.{MachineSeen, MachineSetting};
+ghost use Rattle.ir_meaning.specs.State.{News};
+ghost use Rattle.ir_meaning.specs.Values.{Value};
+ghost use Rattle.simulation.specs.Computing.{IsAt, IsFollowed, is_computing};
+ghost use Rattle.simulation.specs.Images.{Stays};
+ghost use Rattle.simulation.specs.Parts.{HasRegisters, IsKnownValue};
+ghost use Rattle.simulation.specs.Relation.{IsSetting, SeenRelated};
+ghost use Rattle.tag_story.specs.Story.{Story, StoryBirth, StorySetting, value_image};
+ghost use Rattle.tag_story.specs.Telling.{all_told};
+ghost use Rattle.tag_story.specs.ToldRun.{ToldSeen};
+
+/// Births and deaths move no object that was born before and change no tag, so that the number of a value stays, and
+/// registers that have the images of values go on to have them. The function does nothing when it runs.
+pub fn images_stay()
+    ensures places { (e : StorySetting) (w v : Story) (news : List News) → all_told e w news ≡ Ok v → Stays w.births v.births }
+    ensures values { (before after : List StoryBirth) (value : Value) → Stays before after → IsKnownValue before value
+        → value_image after value ≡ value_image before value }
+    ensures registers { (before after : List StoryBirth) (values : List (Option Value)) (numbers : List ℕ)
+        → Stays before after → HasRegisters before values numbers → HasRegisters after values numbers }
+{}
+
+/// In related states the machine follows each source step that only computes: it gives the image of the same result, traps at
+/// the same site, or goes on, and the states stay related. Of a step that is stuck nothing is said. The function does nothing
+/// when it runs.
+pub fn computing_steps_are_followed()
+    ensures { (setting : MachineSetting) (t : ToldSeen) (m : MachineSeen) (f : Function) (inst : Inst)
+        → IsSetting setting → IsAt setting.program t f inst → is_computing setting.program inst.op ≡ true
+        → SeenRelated setting t m → IsFollowed setting t m }
+{}
