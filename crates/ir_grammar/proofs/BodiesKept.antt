@@ -15,20 +15,20 @@ use Rattle.ir_grammar.specs.declared.spelled_bodies.SpelledAttachment.{SpelledAt
 use Rattle.ir_grammar.specs.declared.spelled_bodies.SpelledOperation.{SpelledOperation}
 use Rattle.ir_grammar.specs.declared.spelled_bodies.SpelledOperation.TheVariants as operations
 use Rattle.ir_grammar.specs.declared.spelled_bodies.SpelledInstruction.{SpelledInstruction}
-use Rattle.ir_grammar.specs.Rules.{Sort, nothing, token, base, pair, option, list, Value, one, ◌⨾◌, ◌∣◌, optional, many, between, act, the, just, gone, ◌▷◌, ◌◁◌, items_of}
+use Rattle.ir_grammar.specs.Rules.{Sort, nothing, token, base, pair, option, list, Value, one, ◌⨾◌, ◌∣◌, optional, many, between, act, the, just, ◌▷◌}
 use Rattle.ir_grammar.specs.Words.{integers, locals, globals, commas, meta_names, texts}
 use Rattle.ir_grammar.specs.Names.{Base, number, operand, typed, incoming, case, attachment, operation, instruction, block, scope_inside, shared, Production}
 use Rattle.ir_grammar.specs.Spelled.{Store, integer_of, token_in, add_type}
-use Rattle.ir_grammar.specs.SpelledBodies.{add_operand, add_instruction, add_kept, kept_ones, add_block}
+use Rattle.ir_grammar.specs.SpelledBodies.{add_kept, kept_ones}
 use Rattle.ir_grammar.specs.Skipped.{in_parens, in_braces}
-use Rattle.ir_grammar.specs.Types.{type_rule, solid_type, ptr_word}
-use Rattle.ir_grammar.specs.Attributes.{attribute, attributes}
+use Rattle.ir_grammar.specs.Types.{type_rule, ptr_word}
+use Rattle.ir_grammar.specs.Attributes.{attributes}
 use Rattle.ir_grammar.specs.Constants.{flags, address_parens}
 use Rattle.ir_grammar.specs.Operands.{register, word_operand, integer_operand, named_operand, address_operand, simple_operand, operand_rule, typed_operand, comma_operand, comma_typed, pointer_operand, comma_pointer, bit_word, bit_operand, block_name, comma_block, inline_node, attached_node, attachment_rule, comma_attachment, attachments, list_attachments, small_alignment, stated_alignment, alignment_end, plain_end, aligned_end, scope_rule, scope, order, maybe_order}
 use Rattle.ir_grammar.specs.Instructions.{instruction_flags, maybe_word, two_operands, binary_rest, predicate, icmp_rest, cast_rest, freeze_rest, select_rest, incoming_rule, incoming_squares, comma_incoming, more_incoming, all_incoming, phi_head, phi_rest, count_operand, count_rule, counted_end, uncounted_end, comma_end, alloca_plain, alloca_end, alloca_rest, access_words, access_end, load_rest, store_rest, step_index, step_indices, step_head, step_rest, fence_rest, ordered_end, rmw_word, rmw_rest, exchange_words, exchange_pointer, exchange_end, exchange_rest, pair_rule, pair_type, extract_rest, rest_sort, end_sort}
 use Rattle.ir_grammar.specs.Calls.{argument_value, argument_rule, comma_argument, more_arguments, arguments_rule, arguments, named_call, debug_call, called, call_part, call_tail, call_type, call_head, call_rest, call_word, call_rule, called_sort, call_sort, add_called}
 use Rattle.ir_grammar.specs.Terminators.{simple_behind_void, operand_behind_void, void_alone, void_operand, solid_value, returned, return_rest, jump_end, branch_end, branch_rest, case_value, case_rule, cases_rule, cases, switch_head, switch_rest, unreachable_rest}
-use Rattle.ir_grammar.specs.Blocks.{value_instruction, memory_instruction, atomic_instruction, alloca, common_instruction, plain_instruction, plain_body, body_rule, result_name, instruction_rule, record_rule, block_part, block_parts, worded_terminator, terminator, block_rule, later_blocks, blocks_rule, function_body, worded_sort}
+use Rattle.ir_grammar.specs.Blocks.{value_instruction, memory_instruction, atomic_instruction, alloca, common_instruction, plain_instruction, plain_body, body_rule, result_name, instruction_rule, record_rule, block_part, block_parts, worded_terminator, terminator, block_rule, later_blocks, blocks_rule, worded_sort}
 use Rattle.ir_grammar.specs.SoundStore.{counts_of, IsSoundConstant, IsSoundCount, IsSoundReturned, IsSoundStore, size_of}
 use Rattle.ir_grammar.proofs.Kept.{SoundValue, items_in, Kept, fewer}
 use Rattle.ir_grammar.proofs.SoundSteps.{reading, kept_same, kept_type}

@@ -1,5 +1,5 @@
 -- Each step of reading bodies keeps what was read sound.
-use Rattle.std.proofs.Common.{ℕ, ◌+◌, List, [], ◌∷◌, ◌++◌, length, ◌≤◌, ◌<◌, ◌≡◌, Option, None, Some, All, arith, length-append}
+use Rattle.std.proofs.Common.{ℕ, ◌+◌, List, [], ◌∷◌, ◌++◌, length, ◌≤◌, ◌<◌, ◌≡◌, Option, All, arith, length-append}
 use Rattle.ir_core.specs.declared.token.Token.{Token}
 use Rattle.ir_grammar.specs.declared.terminal.Terminal.{Terminal}
 use Rattle.ir_grammar.specs.declared.spelled.SpelledConstant.{SpelledConstant}
@@ -10,10 +10,10 @@ use Rattle.ir_grammar.specs.declared.spelled_bodies.SpelledCase.{SpelledCase}
 use Rattle.ir_grammar.specs.declared.spelled_bodies.SpelledAttachment.{SpelledAttachment}
 use Rattle.ir_grammar.specs.declared.spelled_bodies.SpelledOperation.{SpelledOperation}
 use Rattle.ir_grammar.specs.declared.spelled_bodies.SpelledInstruction.{SpelledInstruction}
-use Rattle.ir_grammar.specs.Rules.{base, list, option}
+use Rattle.ir_grammar.specs.Rules.{base, list}
 use Rattle.ir_grammar.specs.Spelled.{Store}
-use Rattle.ir_grammar.specs.SpelledBodies.{add_operand, with_operands, with_incoming, with_cases, with_attachments, with_instructions, add_phi, add_step, add_call, add_switch, add_instruction, add_kept, add_block}
-use Rattle.ir_grammar.specs.Names.{Base, Carrier, operand, typed, incoming, case, attachment, operation, instruction, block, shared}
+use Rattle.ir_grammar.specs.SpelledBodies.{add_operand, with_operands, with_incoming, with_cases, with_attachments, with_instructions, add_phi, add_step, add_call, add_switch, add_instruction, add_block}
+use Rattle.ir_grammar.specs.Names.{Base, Carrier, operand, typed, incoming, case, operation, instruction, block, shared}
 use Rattle.ir_grammar.specs.SoundStore.{counts_of, IsSoundConstant, IsSoundOperand, IsSoundTyped, IsSoundIncoming, IsSoundCase, IsSoundOperation, IsSoundInstruction, IsSoundStore, size_of}
 use Rattle.std.proofs.lemmas.List.Elements.{All-append, All-cons, All-nil}
 use Rattle.ir_grammar.proofs.Kept.{SoundValue, Kept}

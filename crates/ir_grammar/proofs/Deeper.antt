@@ -1,5 +1,5 @@
 -- A fault of Nesting is at a bracket that goes on, with one more level.
-use Rattle.std.proofs.Common.{ℕ, zero, suc, ◌+◌, List, [], ◌∷◌, ◌++◌, length, ◌≤◌, ◌<◌, ◌≡◌, refl, sym, ◌∙◌, ap, subst, Bool, true, false, cond, ◌&&◌, ◌⊎◌, inl, inr, Ok, Err, None, Some, arith, append_assoc, length-append}
+use Rattle.std.proofs.Common.{ℕ, zero, suc, List, [], ◌∷◌, ◌++◌, length, ◌≤◌, ◌<◌, ◌≡◌, refl, sym, ◌∙◌, ap, subst, Bool, true, false, cond, ◌&&◌, ◌⊎◌, inl, inr, Ok, Err, None, Some, arith, append_assoc, length-append}
 use Rattle.ir_core.specs.declared.faults.Fault.TheVariants.{TooLarge, Unsupported, BadSyntax}
 use Rattle.ir_core.specs.declared.faults.Limit.TheVariants.{Nesting}
 use Rattle.ir_grammar.specs.declared.kind.Kind.{Kind}

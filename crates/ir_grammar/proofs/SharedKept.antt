@@ -10,9 +10,8 @@ use Rattle.ir_grammar.specs.declared.spelled.SpelledConstant.TheVariants as cons
 use Rattle.ir_grammar.specs.Kinds.{is_among}
 use Rattle.ir_grammar.specs.Rules.{Sort, nothing, token, base, pair, option, list, Value, one, ◌⨾◌, ◌∣◌, optional, many, act, the, just, gone, ◌▷◌, ◌◁◌, items_of}
 use Rattle.ir_grammar.specs.Words.{integers, locals, globals, texts, commas, voids, all_but_brackets}
-use Rattle.ir_grammar.specs.Names.{Base, Name, number, constant, element, index, parameter, array_inside, types_inside, elements_inside, address_inside, parameters_inside, any_inside, sort_of, shared, Production}
+use Rattle.ir_grammar.specs.Names.{Base, number, constant, element, index, parameter, shared, Production}
 use Rattle.ir_grammar.specs.Spelled.{Store, integer_of, token_in, add_type, add_constant}
-use Rattle.ir_grammar.specs.Grammar.{production}
 use Rattle.ir_grammar.specs.Skipped.{in_parens, in_squares, in_braces, any_part, any_run}
 use Rattle.ir_grammar.specs.Types.{int_type, named_type, array_type, braced_types, struct_type, packed_type, other_type, solid_type, type_rule, array_rule, comma_type, more_types, types_rule, ptr_word}
 use Rattle.ir_grammar.specs.Attributes.{alignment, word_attribute, align_attribute, convention_attribute, text_attribute, attribute, attributes}

@@ -1,5 +1,5 @@
 -- What was read of bodies stays sound among more.
-use Rattle.std.proofs.Common.{ℕ, List, length, get_or, ◌≤◌, All, Option, None, Some, arith}
+use Rattle.std.proofs.Common.{List, length, get_or, ◌≤◌, All, Option, None, Some, arith}
 use Rattle.ir_grammar.specs.declared.spelled_bodies.SpelledOperand.{SpelledOperand}
 use Rattle.ir_grammar.specs.declared.spelled_bodies.SpelledOperand.TheVariants as operands
 use Rattle.ir_grammar.specs.declared.spelled_bodies.TypedOperand.{TypedOperand}

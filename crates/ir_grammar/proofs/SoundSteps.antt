@@ -1,5 +1,5 @@
 -- Each step of reading keeps what was read sound.
-use Rattle.std.proofs.Common.{ℕ, ◌+◌, List, [], ◌∷◌, ◌++◌, length, get_or, ◌≤◌, ◌<◌, ◌≡◌, Bool, All, arith, length-append}
+use Rattle.std.proofs.Common.{ℕ, ◌+◌, List, [], ◌∷◌, ◌++◌, length, ◌≤◌, ◌<◌, ◌≡◌, Bool, All, arith, length-append}
 use Rattle.ir_core.specs.declared.token.Token.{Token}
 use Rattle.ir_grammar.specs.declared.spelled.SpelledType.{SpelledType}
 use Rattle.ir_grammar.specs.declared.spelled.SpelledType.TheVariants as types

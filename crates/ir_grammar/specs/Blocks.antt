@@ -1,12 +1,10 @@
 -- Blocks of a function's body (LLVM Language Reference, "Functions"). An alloca outside the entry block is Unsupported.
-use Rattle.std.specs.Prelude.{List, [], ◌∷◌, ◌++◌, Bool, true, false, Option, Some, None}
-use Rattle.ir_core.specs.declared.token.Token.{Token}
+use Rattle.std.specs.Prelude.{List, [], ◌∷◌, ◌++◌, Bool, true, false, Some, None}
 use Rattle.ir_grammar.specs.declared.context.Context.TheVariants as at
 use Rattle.ir_grammar.specs.declared.kind.Kind.{Kind}
 use Rattle.ir_grammar.specs.declared.kind.Kind.TheVariants as k
-use Rattle.ir_grammar.specs.declared.spelled_bodies.SpelledInstruction.{SpelledInstruction}
-use Rattle.ir_grammar.specs.Rules.{Sort, nothing, token, base, pair, option, list, one, refused, ◌⨾◌, ◌∣◌, optional, many, between, act, the, just, gone, ◌▷◌, ◌◁◌}
-use Rattle.ir_grammar.specs.Names.{Base, Production, operation, instruction, block, blocks_inside}
+use Rattle.ir_grammar.specs.Rules.{Sort, token, base, pair, option, list, one, refused, ◌⨾◌, ◌∣◌, optional, many, between, act, the, just, ◌◁◌}
+use Rattle.ir_grammar.specs.Names.{Base, Production, instruction, block, blocks_inside}
 use Rattle.ir_grammar.specs.Words.{locals, refused_types}
 use Rattle.ir_grammar.specs.Spelled.{token_in}
 use Rattle.ir_grammar.specs.SpelledBodies.{add_instruction, add_kept, add_block, kept_ones}

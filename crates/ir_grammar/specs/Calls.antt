@@ -1,16 +1,14 @@
 -- Calls (LLVM Language Reference, "'call' Instruction"). A call of a function that describes variables to a debugger is no
 -- instruction, and its arguments are skipped.
-use Rattle.std.specs.Prelude.{ℕ, List, [], ◌∷◌, ◌++◌, Option, Some, None}
-use Rattle.ir_core.specs.declared.token.Token.{Token}
+use Rattle.std.specs.Prelude.{ℕ, List, [], ◌∷◌, Option, Some, None}
 use Rattle.ir_grammar.specs.declared.context.Context.TheVariants as at
-use Rattle.ir_grammar.specs.declared.kind.Kind.{Kind}
 use Rattle.ir_grammar.specs.declared.kind.Kind.TheVariants as k
 use Rattle.ir_grammar.specs.declared.terminal.Terminal.{Terminal}
 use Rattle.ir_grammar.specs.declared.spelled_bodies.TypedOperand.{TypedOperand}
 use Rattle.ir_grammar.specs.declared.spelled_bodies.SpelledOperation.{SpelledOperation}
 use Rattle.ir_grammar.specs.Rules.{Sort, nothing, token, base, pair, option, list, one, refused, ◌⨾◌, ◌∣◌, optional, many, between, act, the, just, gone, ◌▷◌, ◌◁◌, items_of}
 use Rattle.ir_grammar.specs.Names.{Base, Production, number, operand, typed, attachment, operation, arguments_inside}
-use Rattle.ir_grammar.specs.Words.{commas, locals, refused_values}
+use Rattle.ir_grammar.specs.Words.{commas, refused_values}
 use Rattle.ir_grammar.specs.Spelled.{Store}
 use Rattle.ir_grammar.specs.SpelledBodies.{add_call}
 use Rattle.ir_grammar.specs.Skipped.{in_parens}

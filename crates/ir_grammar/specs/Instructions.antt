@@ -1,13 +1,13 @@
 -- Instructions without calls (LLVM Language Reference, "Instruction Reference"): what follows the first word of each, with
 -- its attachments.
-use Rattle.std.specs.Prelude.{List, [], ◌∷◌, Bool, true, false, Option, Some, None}
+use Rattle.std.specs.Prelude.{[], ◌∷◌, Some, None}
 use Rattle.ir_grammar.specs.declared.context.Context.TheVariants as at
 use Rattle.ir_grammar.specs.declared.kind.Kind.{Kind}
 use Rattle.ir_grammar.specs.declared.kind.Kind.TheVariants as k
 use Rattle.ir_grammar.specs.declared.spelled_bodies.SpelledOperation.TheVariants as operations
 use Rattle.ir_grammar.specs.Rules.{Sort, nothing, token, base, pair, option, list, one, refused, ◌⨾◌, ◌∣◌, optional, many, between, act, the, just, gone, ◌▷◌, ◌◁◌}
 use Rattle.ir_grammar.specs.Names.{Base, Production, number, operand, typed, incoming, attachment, operation, incoming_inside, pair_inside}
-use Rattle.ir_grammar.specs.Words.{integers, locals, globals, commas, refused_types, refused_values}
+use Rattle.ir_grammar.specs.Words.{integers, locals, commas, refused_types, refused_values}
 use Rattle.ir_grammar.specs.Spelled.{token_in}
 use Rattle.ir_grammar.specs.SpelledBodies.{add_phi, add_step}
 use Rattle.ir_grammar.specs.Types.{type_rule}

@@ -3,7 +3,7 @@ use Rattle.ir_grammar.specs.declared.context.Context.{Context}
 use Rattle.ir_grammar.specs.declared.context.Context.TheVariants as at
 use Rattle.ir_grammar.specs.declared.kind.Kind.TheVariants as k
 use Rattle.ir_grammar.specs.Spelled.{token_in}
-use Rattle.ir_grammar.specs.Rules.{token, base, option, list, one, ◌⨾◌, optional, many, between, the, just, ◌▷◌, items_of}
+use Rattle.ir_grammar.specs.Rules.{token, base, option, list, one, ◌⨾◌, optional, many, between, just, ◌▷◌, items_of}
 use Rattle.ir_grammar.specs.Names.{Production, parameter, parameters_inside}
 use Rattle.ir_grammar.specs.Words.{locals, commas}
 use Rattle.ir_grammar.specs.Types.{type_rule}

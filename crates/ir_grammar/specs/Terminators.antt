@@ -1,13 +1,12 @@
 -- Terminators (LLVM Language Reference, "Terminator Instructions"): what follows the first word of each, with its
 -- attachments.
-use Rattle.std.specs.Prelude.{List, [], ◌∷◌, Some, None}
+use Rattle.std.specs.Prelude.{[], ◌∷◌, Some}
 use Rattle.ir_grammar.specs.declared.context.Context.TheVariants as at
 use Rattle.ir_grammar.specs.declared.kind.Kind.TheVariants as k
 use Rattle.ir_grammar.specs.declared.spelled.SpelledType.TheVariants as types
 use Rattle.ir_grammar.specs.declared.spelled_bodies.SpelledOperation.TheVariants as operations
-use Rattle.ir_grammar.specs.Rules.{nothing, token, base, pair, option, list, one, refused, ◌⨾◌, ◌∣◌, optional, many, between, act, the, just, gone, ◌▷◌, ◌◁◌}
+use Rattle.ir_grammar.specs.Rules.{base, pair, option, list, refused, ◌⨾◌, ◌∣◌, optional, many, between, act, the, just}
 use Rattle.ir_grammar.specs.Names.{Production, number, operand, typed, case, operation, cases_inside}
-use Rattle.ir_grammar.specs.Words.{commas}
 use Rattle.ir_grammar.specs.Spelled.{add_type}
 use Rattle.ir_grammar.specs.SpelledBodies.{add_switch}
 use Rattle.ir_grammar.specs.Types.{type_rule, solid_type}

@@ -1,12 +1,11 @@
 -- The conditions under which the law of reading says all, and what is kept, for a whole body.
-use Rattle.std.proofs.Common.{ℕ, zero, suc, List, [], ◌∷◌, ◌++◌, drop, length, ◌≤◌, ◌-◌, ◌≡◌, refl, subst, sym, true, false, All, Ok, Err, arith}
+use Rattle.std.proofs.Common.{ℕ, zero, suc, List, [], ◌∷◌, ◌++◌, drop, length, ◌-◌, ◌≡◌, refl, subst, true, false, All, Ok, Err, arith}
 use Rattle.ir_grammar.specs.declared.spelled_bodies.SpelledBlock.{SpelledBlock}
 use Rattle.ir_grammar.specs.declared.terminal.Terminal.{Terminal}
-use Rattle.ir_grammar.specs.declared.terminal.Flaw.{Flaw}
 use Rattle.ir_grammar.specs.Reading.{Outcome, ◌>>=◌, starts}
 use Rattle.ir_grammar.specs.Rules.{base, list}
 use Rattle.ir_grammar.specs.Conditions.{is_clear, goes_on, has, ends}
-use Rattle.ir_grammar.specs.Names.{block, blocks_inside, sort_of, shared}
+use Rattle.ir_grammar.specs.Names.{block, shared}
 use Rattle.ir_grammar.specs.Spelled.{Store}
 use Rattle.ir_grammar.specs.Grammar.{production, read, nesting_limit}
 use Rattle.ir_grammar.specs.SoundStore.{IsInRange, IsSoundStore, IsSoundBlock, counts_of}

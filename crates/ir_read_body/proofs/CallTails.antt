@@ -1,5 +1,5 @@
 -- The loop over what follows the arguments of a call.
-use Rattle.std.proofs.Common.{ℕ, List, [], ◌∷◌, ◌++◌, length, ◌<◌, ◌≡◌, refl, true, false, ◌||◌, Ok, Err}
+use Rattle.std.proofs.Common.{ℕ, List, [], ◌∷◌, length, ◌<◌, ◌≡◌, refl, true, false, ◌||◌, Ok, Err}
 use Rattle.ir_grammar.specs.declared.context.Context.TheVariants as at
 use Rattle.ir_grammar.specs.declared.kind.Kind.TheVariants as k
 use Rattle.ir_grammar.specs.declared.terminal.Terminal.{Terminal}

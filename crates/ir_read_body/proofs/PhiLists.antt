@@ -4,7 +4,7 @@ use Rattle.ir_grammar.specs.declared.kind.Kind.TheVariants as k
 use Rattle.ir_grammar.specs.declared.spelled_bodies.SpelledIncoming.{SpelledIncoming}
 use Rattle.ir_grammar.specs.declared.terminal.Terminal.{Terminal}
 use Rattle.ir_grammar.specs.declared.terminal.Flaw.{Flaw}
-use Rattle.ir_grammar.specs.Reading.{Outcome, starts}
+use Rattle.ir_grammar.specs.Reading.{starts}
 use Rattle.ir_grammar.specs.Rules.{base}
 use Rattle.ir_grammar.specs.Spelled.{Store}
 use Rattle.ir_grammar.specs.Names.{incoming, shared}

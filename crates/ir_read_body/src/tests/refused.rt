@@ -80,6 +80,18 @@ fn switches_that_do_not_go_on(rt: HostRuntime) -> Result<(), Fail> {
 #[test]
 fn blocks_that_do_not_go_on(rt: HostRuntime) -> Result<(), Fail> {
     let rows = [
+        (
+            "{ unreachable, !a !{{{{{{{{{{{{{{{{{{{{{{{{{{{{{{{{{{{{{{{{{{{{{{{{{{{{{{{{{{{{{{{{ } }",
+            "TooLarge Nesting 1:83",
+        ),
+        (
+            "{ freeze {{{{{{{{{{{{{{{{{{{{{{{{{{{{{{{{{{{{{{{{{{{{{{{{{{{{{{{{{{{{{{{{i8",
+            "TooLarge Nesting 1:73",
+        ),
+        (
+            "{ add i8 1, ((((((((((((((((((((((((((((((((((((((((((((((((((((((((((((((((((((((",
+            "BadSyntax 1:13",
+        ),
         ("{ }", "BadSyntax 1:3"),
         ("{ %x = add i32 1, 2 }", "BadSyntax 1:21"),
         ("{ a: b: unreachable }", "BadSyntax 1:6"),

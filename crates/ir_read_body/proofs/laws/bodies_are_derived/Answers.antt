@@ -1,4 +1,4 @@
-use Rattle.std.proofs.Common.{[], ◌∷◌, ◌++◌, refl, subst, append_assoc}
+use Rattle.std.proofs.Common.{[], ◌∷◌, subst, append_assoc}
 use Rattle.ir_grammar.specs.Rules.{base, list, Derives}
 use Rattle.ir_grammar.specs.Names.{block, shared}
 use Rattle.ir_grammar.specs.Grammar.{production, nesting_limit}
