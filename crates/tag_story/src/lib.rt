@@ -4,9 +4,11 @@
 #![tactic(auto)]
 
 mod examples;
+mod further_examples;
 mod judgement;
 mod laws;
 
 pub use examples::judged_violations;
+pub use further_examples::{judged_frees, judged_reads};
 pub use judgement::{Coincidence, Judgement, Refusing, Short};
 pub use laws::{granules_have_one_owner, stories_are_laid_out, stories_go_on};
