@@ -61,13 +61,13 @@ next-instruction m f resolved runnable i inst there phi last = next-from f.insts
 
 -- ---- the first instruction of a block
 
-block-from : (insts : List Inst) (from : ℕ) (blocks : List Block) → AreBlocksFrom insts from blocks → (k : ℕ) (block : Block) → slice_get blocks k ≡ Some block → (start : ℕ) × IsBlockAt insts start block
+pub block-from : (insts : List Inst) (from : ℕ) (blocks : List Block) → AreBlocksFrom insts from blocks → (k : ℕ) (block : Block) → slice_get blocks k ≡ Some block → (start : ℕ) × IsBlockAt insts start block
 block-from insts from [] h k block there = absurd (cc)
 block-from insts from (first ∷ blocks) h zero block there = let e : first ≡ block = cc in (from, subst (IsBlockAt insts from) e h.0)
 block-from insts from (first ∷ blocks) h (suc k) block there = block-from insts (first.first + first.count) blocks h.1 k block there
 
 -- the phis of a block have no code
-phis-place : (m : Module) (f : Function) (from : ℕ) (block : Block) → IsBlockAt f.insts from block → (j : ℕ) → j ≤ block.phis → place_of m f (block.first + j) ≡ place_of m f block.first
+pub phis-place : (m : Module) (f : Function) (from : ℕ) (block : Block) → IsBlockAt f.insts from block → (j : ℕ) → j ≤ block.phis → place_of m f (block.first + j) ≡ place_of m f block.first
 phis-place m f from block b zero low = let e : block.first + 0 ≡ block.first = omega arith in ap (place_of m f) e
 phis-place m f from block b (suc j) low =
     let e : block.first + suc j ≡ suc (block.first + j) = omega arith in
@@ -99,7 +99,7 @@ get-map g [] k x h = absurd (cc)
 get-map g (y ∷ ys) zero x h = ap g (cc)
 get-map g (y ∷ ys) (suc k) x h = get-map g ys k x h
 
-target-start : (m : Module) (f : Function) (blocks : List Block) → f.blocks ≡ blocks → (k : ℕ) (block : Block) → 0 < k → slice_get blocks k ≡ Some block → slice_index (starts_of m f) k ≡ place_of m f block.first
+pub target-start : (m : Module) (f : Function) (blocks : List Block) → f.blocks ≡ blocks → (k : ℕ) (block : Block) → 0 < k → slice_get blocks k ≡ Some block → slice_index (starts_of m f) k ≡ place_of m f block.first
 target-start m f [] e k block some there = absurd (cc)
 target-start m f (entry ∷ blocks) e zero block some there = absurd (omega arith)
 target-start m f (entry ∷ blocks) e (suc k) block some there =

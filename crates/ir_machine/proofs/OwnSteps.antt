@@ -47,7 +47,7 @@ use Rattle.ir_machine.proofs.KeptPlaces.{KeepsPlaces, MayGoOn, if-kept, writable
 use Rattle.ir_machine.proofs.KeptSteps.{binary-kept, icmp-kept, cast-kept, bits-kept, overflow-kept, select-kept, freeze-kept, extract-kept, alloca-kept, gep-kept, load-kept, store-kept, rmw-kept, cmpxchg-kept, malloc-kept, free_step-kept, realloc-kept, copy-kept, set-kept, memcmp-kept, strlen-kept, puts-kept, putchar-kept, getchar-kept, exit-kept, abort-kept, join-kept, mutex_init-kept, mutex_lock-kept, mutex_unlock-kept, write-kept}
 
 -- setting registers changes no function of a frame
-registers-func : (frame : Frame) (moves : List (ℕ × ℕ)) → (with_registers frame moves).func ≡ frame.func
+pub registers-func : (frame : Frame) (moves : List (ℕ × ℕ)) → (with_registers frame moves).func ≡ frame.func
 unfolding with_registers
 registers-func frame [] = refl
 registers-func frame (move ∷ moves) = registers-func (with_register frame move.0 move.1) moves

@@ -33,6 +33,10 @@ use Rattle.simulation.proofs.PlainSteps.{FollowsIn, IsBeforeNext, IsNumberOf, ow
 abbrev pub IsOperandOf : ToldSeen → MachineSeen → MiOperand → Option Value → Type 0
 IsOperandOf t m operand value = IsNumberOf t.shared.story.births (number_in m operand) value
 
+-- a condition counts by its lowest bit
+pub one-bit : (n : ℕ) → is_set (n % 2 ^ 1) ≡ is_set n
+one-bit n = let e : n % 2 ^ 1 % 2 ≡ n % 2 = omega arith in ap (λ k. not (k == 0)) e
+
 -- the second part of the machine's operand is the bit of the source's pair
 abbrev pub IsBitOf : MachineSeen → MiOperand → Option Value → Type 0
 IsBitOf m x pair = (n bit : ℕ) → pair ≡ Some (IntegerAndBit n bit) → second_part m.frame.registers x ≡ bit
@@ -63,9 +67,6 @@ module _ (setting : MachineSetting) (t : ToldSeen) (m : MachineSeen) (f : Functi
   unfolding source.cast_step machine.cast_step
   cast-follows op from to a x is =
       integer-follows setting t from a (number_in m x) _ (λ k. Rattle.ir_machine.specs.StepEnds.gives m (result_register f result) (cast_result op from to k)) is (λ k. integer-given (cast_result op from to k))
-
-  one-bit : (n : ℕ) → is_set (n % 2 ^ 1) ≡ is_set n
-  one-bit n = let e : n % 2 ^ 1 % 2 ≡ n % 2 = omega arith in ap (λ k. not (k == 0)) e
 
   pub select-follows : (cond a b : Option Value) (c x y : MiOperand) → IsOperandOf t m c cond → IsOperandOf t m x a → IsOperandOf t m y b → FollowsIn setting t (source.select_step (source_seen t) result cond a b) (machine.select_step m (result_register f result) c x y)
   unfolding source.select_step machine.select_step

@@ -1,9 +1,12 @@
 pub mod ArithmeticFollows
+pub mod BranchFollows
 pub mod CodeAt
-pub mod ComputingFollows
 pub mod Images
 pub mod OperandImages
+pub mod OperandsThere
 pub mod PlacesTold
 pub mod PlainSteps
+pub mod PointerFollows
 pub mod RegisterImages
+pub mod RegisterSteps
 pub mod Steps

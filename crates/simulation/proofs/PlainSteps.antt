@@ -15,12 +15,13 @@ use Rattle.ir_meaning.specs.Operands.{single, with_named, with_integer}
 use Rattle.ir_meaning.specs.StepEnds as source
 use Rattle.ir_machine.specs.State.{MachineSetting, MachineSeen, MachineOutcome}
 use Rattle.ir_machine.specs.StepEnds as machine
+use Rattle.ir_tasks.specs.Frames.{Frame}
 use Rattle.mi_code.specs.Instrumentation.{place_of}
 use Rattle.mi_code.specs.MachineOperands.{registers_of, result_register}
 use Rattle.tag_story.specs.Story.{StoryBirth, value_image}
 use Rattle.tag_story.specs.Telling.{all_told}
 use Rattle.tag_story.specs.ToldRun.{ToldSeen, source_seen, told_outcome}
-use Rattle.simulation.specs.Parts.{IsKnownValue, HasRegisters}
+use Rattle.simulation.specs.Parts.{IsChain, IsKnownValue, HasRegisters}
 use Rattle.simulation.specs.Relation.{story_setting, SeenLike, SeenRelated}
 use Rattle.simulation.specs.Following.{Follows}
 use Rattle.simulation.proofs.RegisterImages.{IsSingle, register-set, pair-set, past-set}
@@ -64,6 +65,27 @@ moved-related setting t m f values numbers like before count has =
         step = like.step;
       };
       place = λ g h. before.1 ∙ ap (λ (k : Function). place_of setting.program k (t.frame.inst + 1)) (same-function setting.program t.frame.func f g before.0 h);
+    }
+
+-- the source goes on at another instruction, and the machine at its place
+pub at-related : (setting : MachineSetting) (t : ToldSeen) (m : MachineSeen) (f : Function) (values : List (Option Value)) (inst : ℕ) (frame : Frame) → SeenLike setting t m → slice_get setting.program.functions t.frame.func ≡ Some f → length values ≡ length t.frame.registers → HasRegisters t.shared.story.births values frame.registers → frame.func ≡ m.frame.func → frame.chain ≡ m.frame.chain → frame.place ≡ place_of setting.program f inst → SeenRelated setting (record t { frame = record t.frame { registers = values; inst = inst } }) (record m { frame = frame })
+at-related setting t m f values inst frame like there count has func chain place =
+    record {
+      like = record {
+        shared = like.shared;
+        task = like.task;
+        frame = record {
+          func = func ∙ like.frame.func;
+          sized = λ g h. count ∙ like.frame.sized g h;
+          registers = has;
+          chain = subst (λ n. IsChain m.shared.chains n t.frame.chain) (sym chain) like.frame.chain;
+        };
+        callers = like.callers;
+        owned = like.owned;
+        finished = like.finished;
+        step = like.step;
+      };
+      place = λ g h. place ∙ ap (λ (k : Function). place_of setting.program k inst) (same-function setting.program t.frame.func f g there h);
     }
 
 -- nothing is given

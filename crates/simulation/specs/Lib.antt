@@ -1,5 +1,5 @@
-pub mod Computing
 pub mod Following
 pub mod Images
 pub mod Parts
+pub mod RegisterSteps
 pub mod Relation

@@ -4,7 +4,7 @@ ghost use Rattle.ir_core.specs.declared.ir_module.Inst.{Inst};
 ghost use Rattle.ir_machine.specs.State.{MachineSeen, MachineSetting};
 ghost use Rattle.ir_meaning.specs.State.{News};
 ghost use Rattle.ir_meaning.specs.Values.{Value};
-ghost use Rattle.simulation.specs.Computing.{IsAt, IsFollowed, is_computing};
+ghost use Rattle.simulation.specs.RegisterSteps.{IsAt, IsFollowed, is_register_step};
 ghost use Rattle.simulation.specs.Images.{Stays};
 ghost use Rattle.simulation.specs.Parts.{HasRegisters, IsKnownValue};
 ghost use Rattle.simulation.specs.Relation.{IsSetting, SeenRelated};
@@ -22,11 +22,11 @@ pub fn images_stay()
         → Stays before after → HasRegisters before values numbers → HasRegisters after values numbers }
 {}
 
-/// In related states the machine follows each source step that only computes: it gives the image of the same result, traps at
-/// the same site, or goes on, and the states stay related. Of a step that is stuck nothing is said. The function does nothing
+/// In related states the machine follows each source step that reads and writes registers alone: it gives the image of the same
+/// result, goes along the same edge, or traps at the same site, and the states stay related. Of a step that is stuck nothing is said. The function does nothing
 /// when it runs.
-pub fn computing_steps_are_followed()
+pub fn register_steps_are_followed()
     ensures { (setting : MachineSetting) (t : ToldSeen) (m : MachineSeen) (f : Function) (inst : Inst)
-        → IsSetting setting → IsAt setting.program t f inst → is_computing setting.program inst.op ≡ true
+        → IsSetting setting → IsAt setting.program t f inst → is_register_step setting.program inst.op ≡ true
         → SeenRelated setting t m → IsFollowed setting t m }
 {}

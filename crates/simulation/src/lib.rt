@@ -1,8 +1,8 @@
 //! The simulation on which the detection theorem will rest: a relation between the source run with its story and the machine
 //! that runs the instrumented code, and what the machine does when the source makes a step in related states. Of the steps,
-//! those that only compute are shown to be followed. Its functions do nothing when they run: they carry the laws.
+//! those that read and write registers alone are shown to be followed. Its functions do nothing when they run: they carry the laws.
 #![tactic(auto)]
 
 mod laws;
 
-pub use laws::{computing_steps_are_followed, images_stay};
+pub use laws::{images_stay, register_steps_are_followed};

@@ -1,28 +1,21 @@
--- The machine follows each step that only computes.
-use Rattle.std.proofs.Common.{◌≡◌, ℕ, ◌+◌, ◌<◌, true, List, [], ◌∷◌, ◌++◌, length, map, slice_get, Option, Some, None, refl, sym, ◌∙◌, ap, subst, arith}
-use Rattle.std.proofs.lemmas.List.FromFn.{length-enumerate_from}
-use Rattle.std.proofs.lemmas.List.{length-map}
+-- The machine follows each step that reads and writes registers alone.
+use Rattle.std.proofs.Common.{◌≡◌, ℕ, suc, ◌+◌, true, List, [], ◌∷◌, ◌++◌, length, map, slice_get, Option, Some, None, refl, sym, ◌∙◌, ap, subst, arith}
 use Rattle.hw_base.specs.declared.endings.Input.{Input}
 use Rattle.hw_base.specs.declared.operators.BinOp.{BinOp}
 use Rattle.hw_base.specs.declared.operators.CastOp.{CastOp}
 use Rattle.hw_base.specs.declared.operators.Pred.{Pred}
 use Rattle.hw_base.specs.declared.pointers.Site.{Site}
 use Rattle.hw_tags.specs.InputState.{next_input}
-use Rattle.global_tags.specs.GlobalPlaces.{descriptors_of}
 use Rattle.ir_core.specs.declared.ir_module.Function.{Function}
-use Rattle.ir_core.specs.declared.ir_module.GlobalVar.{GlobalVar}
 use Rattle.ir_core.specs.declared.ir_module.Inst.{Inst}
 use Rattle.ir_core.specs.declared.ir_module.Module.{Module}
-use Rattle.ir_core.specs.declared.operands.Operand.{Operand}
-use Rattle.ir_core.specs.declared.operands.Operand.TheVariants.{Reg, Int as Literal, Null, Global}
 use Rattle.ir_core.specs.declared.operands.Placed.{Placed}
 use Rattle.ir_core.specs.declared.operations.Op.{Op}
 use Rattle.ir_core.specs.declared.operations.Op.TheVariants as op
 use Rattle.ir_core.specs.declared.types.IrType.{IrType}
 use Rattle.ir_core.specs.declared.types.IrType.TheVariants.{Void, Int, Ptr, Array, Struct, Opaque, Pair}
 use Rattle.ir_core.specs.NumberTypes.{type_of, bits_of}
-use Rattle.ir_core.specs.ResolvedBodies.{IsResolvedOperand, IsResolvedPlaced, IsResolvedOp, IsResolvedFunction}
-use Rattle.ir_core.specs.Runnable.{IsRunnable}
+use Rattle.ir_core.specs.ResolvedBodies.{IsResolvedPlaced, IsResolvedOp, IsResolvedFunction}
 use Rattle.ir_meaning.specs.InstructionStep as source
 use Rattle.ir_meaning.specs.ArithmeticSteps.{extract_step, icmp_step}
 use Rattle.ir_meaning.specs.Operands.{with_named}
@@ -40,47 +33,17 @@ use Rattle.mi_code.specs.TagChecks.{added_code}
 use Rattle.mi_code.specs.Widths.{width_of_type}
 use Rattle.ir_core.specs.Blocks.{block_holding}
 use Rattle.tag_story.specs.ToldRun.{ToldSeen, source_seen}
-use Rattle.simulation.specs.Relation.{IsSetting, HasGlobals, SeenLike, SeenRelated}
-use Rattle.simulation.specs.Computing.{is_integer_type, is_computing, IsAt, IsFollowed}
-use Rattle.simulation.proofs.CodeAt.{instruction-get, place-next, at-frame}
-use Rattle.simulation.proofs.OperandImages.{AreGlobals, IsOperandThere, operand-image, second-image}
+use Rattle.simulation.specs.Relation.{IsSetting, SeenRelated}
+use Rattle.simulation.specs.RegisterSteps.{is_integer_type, is_register_step, IsAt, IsFollowed}
+use Rattle.ir_machine.proofs.CodeAt.{place-next}
+use Rattle.simulation.proofs.CodeAt.{instruction-get, at-frame}
 use Rattle.simulation.proofs.PlainSteps.{FollowsIn, IsBeforeNext, own_site, goes_on-follows}
 use Rattle.simulation.proofs.Steps.{source-first}
-use Rattle.simulation.proofs.ArithmeticFollows.{IsOperandOf, IsBitOf, binary-follows, icmp-follows, cast-follows, select-follows, freeze-follows, extract-follows}
-
--- ---- operands
-
-descriptors-count : (setting : MachineSetting) → length (descriptors_of setting.places setting.program.layouts setting.program.globals (setting.word 0)) ≡ length setting.program.globals
-descriptors-count setting = length-map _ _ ∙ length-enumerate_from 0 setting.program.globals
-
-globals-there : (setting : MachineSetting) (t : ToldSeen) (m : MachineSeen) (index : ℕ) → SeenLike setting t m → index < length setting.program.globals → AreGlobals t.shared.story.births m.shared.globals × (index < length m.shared.globals)
-globals-there setting t m index like below = (by_globals setting.program.globals refl like.shared.globals, let count = ap length like.shared.descriptors in let same = descriptors-count setting in omega (arith, count, same, below))
-  where
-    by_globals : (globals : List GlobalVar) → setting.program.globals ≡ globals → HasGlobals setting globals t.shared.story m.shared → AreGlobals t.shared.story.births m.shared.globals
-    by_globals [] are has = let none = ap length are in absurd (omega (arith, none, below))
-    by_globals (g ∷ globals) are has = record { birth = has.0; there = has.1; objects = has.3 }
-
-operand-there : (setting : MachineSetting) (t : ToldSeen) (m : MachineSeen) (f : Function) (operand : Operand) → SeenLike setting t m → IsResolvedOperand setting.program f operand → IsOperandThere t.shared.story.births m.shared.globals operand
-operand-there setting t m f (Reg r) like resolved = tt
-operand-there setting t m f (Literal n) like resolved = tt
-operand-there setting t m f Null like resolved = tt
-operand-there setting t m f (Global index off) like resolved = globals-there setting t m index like resolved
-
--- the machine's operand is a number of the source's value
-pub operand-of : (setting : MachineSetting) (t : ToldSeen) (m : MachineSeen) (f : Function) (placed : Placed) → SeenLike setting t m → IsResolvedPlaced setting.program f placed → IsOperandOf t m (operand_of placed) (source.value_of setting.program (source_seen t) placed)
-operand-of setting t m f placed like resolved v is =
-    operand-image t.shared.story.births m.shared.globals (type_of setting.program placed.ty) t.frame.registers m.frame.registers placed.operand v like.frame.registers
-    (operand-there setting t m f placed.operand like resolved.operand) is
-
-bit-of : (setting : MachineSetting) (t : ToldSeen) (m : MachineSeen) (placed : Placed) → SeenLike setting t m → IsBitOf m (operand_of placed) (source.value_of setting.program (source_seen t) placed)
-bit-of setting t m placed like n bit is =
-    second-image t.shared.story.births (type_of setting.program placed.ty) t.frame.registers m.frame.registers placed.operand n bit like.frame.registers is
-
--- what is resolved at an instruction of the module
-pub resolved-at : (program : Module) (func i : ℕ) (f : Function) (inst : Inst) → IsRunnable program → slice_get program.functions func ≡ Some f → slice_get f.insts i ≡ Some inst → IsResolvedOp program f inst.op
-resolved-at program func i f inst runnable function instruction =
-    all-at (λ (x : Inst). IsResolvedOp program f x.op) f.insts i inst
-    (all-at (IsResolvedFunction program) program.functions func f runnable.resolved.functions function).instructions instruction
+use Rattle.simulation.proofs.ArithmeticFollows.{IsOperandOf, binary-follows, icmp-follows, cast-follows, select-follows, freeze-follows, extract-follows}
+use Rattle.ir_core.specs.declared.operands.Case.{Case}
+use Rattle.simulation.proofs.BranchFollows.{br-follows, br_if-follows, switch-follows, unreachable-follows}
+use Rattle.simulation.proofs.PointerFollows.{gep-follows}
+use Rattle.simulation.proofs.OperandsThere.{operand-of, bit-of, resolved-at}
 
 -- ---- code
 
@@ -98,7 +61,7 @@ plain-step setting given t m f inst op is at related has =
 
 pub before-next : (setting : MachineSetting) (t : ToldSeen) (m : MachineSeen) (f : Function) (inst : Inst) (op : MiOp) → IsAt setting.program t f inst → SeenRelated setting t m → HasCode setting.program f (own_site t) inst op → IsBeforeNext setting t m f
 before-next setting t m f inst op at related has =
-    (at.function, let here = related.place f at.function in let next = place-next setting.program f t.frame.inst inst at.instruction in let one = has.1 in omega (arith, here, next, one))
+    (at.function, let here = related.place f at.function in let next = place-next setting.program f t.frame.inst inst at.instruction in let one = has.1 in let after : t.frame.inst + 1 ≡ suc t.frame.inst = omega arith in let same = ap (place_of setting.program f) after in omega (arith, here, next, one, same))
 
 -- ---- the step
 
@@ -133,7 +96,7 @@ module _ (setting : MachineSetting) (given : Input) (t : ToldSeen) (m : MachineS
   unfolding code_of_instruction
   has-code o mi same code = subst (λ x. IsCodeOf x mi) (sym same) code
 
-  -- the machine instruction of an instruction that only computes
+  -- the machine instruction of an instruction of a register step
   by-step : (o : Op) (mi : MiOp) → inst.op ≡ o → IsCodeOf o mi
       → ((next : MachineSeen → MachineOutcome) → IsBeforeNext setting t m f → FollowsIn setting t (source.operation_step setting.program given f (source_seen t) inst.result o) (machine.operation_step setting given (own_site t) next m mi))
       → FollowsIn setting t (source.source_step setting.program given (source_seen t)) (machine.machine_step setting given m)
@@ -188,32 +151,58 @@ module _ (setting : MachineSetting) (given : Input) (t : ToldSeen) (m : MachineS
       by_type before Opaque h = absurd cc
       by_type before (Pair width) h = absurd cc
 
-  -- by the instruction
-  pub computing : (o : Op) → is_computing setting.program o ≡ true → Followed o
-  computing (op.Binary kind a b) h = binary kind a b
-  computing (op.Icmp pred a b) h = icmp pred a b h
-  computing (op.Cast kind a to) h = cast kind a to
-  computing (op.Select cond a b) h = select cond a b
-  computing (op.Freeze a) h = freeze a
-  computing (op.Phi ty entries) h = absurd cc
-  computing (op.Alloca index ty count) h = absurd cc
-  computing (op.Load ty where_at align) h = absurd cc
-  computing (op.Store value where_at align) h = absurd cc
-  computing (op.Gep ty base indices) h = absurd cc
-  computing op.Fence h = fence
-  computing (op.Rmw kind where_at value align) h = absurd cc
-  computing (op.CmpXchg where_at expected new align) h = absurd cc
-  computing (op.ExtractValue pair part) h = extract pair part
-  computing (op.Call func ty args) h = absurd cc
-  computing (op.CallLib declare ty args start) h = absurd cc
-  computing (op.Br block) h = absurd cc
-  computing (op.BrIf cond at_one at_zero) h = absurd cc
-  computing (op.Switch on other cases) h = absurd cc
-  computing (op.Ret value) h = absurd cc
-  computing op.Unreachable h = absurd cc
+  gep : (ty : ℕ) (base : Placed) (indices : List Placed) → Followed (op.Gep ty base indices)
+  gep ty base indices same resolved =
+      by-step (op.Gep ty base indices) _ same (refl, refl) (λ next before.
+      gep-follows setting t m f related.like before inst.result ty _ (operand_of base) indices (operand base resolved.1) resolved.2)
 
--- the machine follows each step that only computes
-pub computing-followed : (setting : MachineSetting) (t : ToldSeen) (m : MachineSeen) (f : Function) (inst : Inst) → IsSetting setting → IsAt setting.program t f inst → is_computing setting.program inst.op ≡ true → SeenRelated setting t m → IsFollowed setting t m
-computing-followed setting t m f inst is at computes related input =
-    computing setting (next_input input t.shared.source.input) t m f inst is at related inst.op computes refl
+  resolved-function : IsResolvedFunction setting.program f
+  resolved-function = all-at (IsResolvedFunction setting.program) setting.program.functions t.frame.func f is.runnable.resolved.functions at.function
+
+  br : (block : ℕ) → Followed (op.Br block)
+  br block same resolved =
+      by-step (op.Br block) _ same (refl, refl) (λ next before.
+      br-follows setting t m f related.like resolved-function at.function block resolved)
+
+  br_if : (cond : Placed) (first second : ℕ) → Followed (op.BrIf cond first second)
+  br_if cond first second same resolved =
+      by-step (op.BrIf cond first second) _ same (refl, refl) (λ next before.
+      br_if-follows setting t m f related.like resolved-function at.function _ (operand_of cond) first second (operand cond resolved.0) resolved.1 resolved.2)
+
+  switch : (on : Placed) (other : ℕ) (cases : List Case) → Followed (op.Switch on other cases)
+  switch on other cases same resolved =
+      by-step (op.Switch on other cases) _ same (refl, refl) (λ next before.
+      switch-follows setting t m f related.like resolved-function at.function (bits_of (type_of setting.program on.ty)) _ (operand_of on) other cases (operand on resolved.0) resolved.1 resolved.2)
+
+  unreachable : Followed op.Unreachable
+  unreachable same resolved = by-step op.Unreachable _ same (refl, refl) (λ next before. unreachable-follows setting t m f related.like)
+
+  -- by the instruction
+  pub own : (o : Op) → is_register_step setting.program o ≡ true → Followed o
+  own (op.Binary kind a b) h = binary kind a b
+  own (op.Icmp pred a b) h = icmp pred a b h
+  own (op.Cast kind a to) h = cast kind a to
+  own (op.Select cond a b) h = select cond a b
+  own (op.Freeze a) h = freeze a
+  own (op.Phi ty entries) h = absurd cc
+  own (op.Alloca index ty count) h = absurd cc
+  own (op.Load ty where_at align) h = absurd cc
+  own (op.Store value where_at align) h = absurd cc
+  own (op.Gep ty base indices) h = gep ty base indices
+  own op.Fence h = fence
+  own (op.Rmw kind where_at value align) h = absurd cc
+  own (op.CmpXchg where_at expected new align) h = absurd cc
+  own (op.ExtractValue pair part) h = extract pair part
+  own (op.Call func ty args) h = absurd cc
+  own (op.CallLib declare ty args start) h = absurd cc
+  own (op.Br block) h = br block
+  own (op.BrIf cond at_one at_zero) h = br_if cond at_one at_zero
+  own (op.Switch on other cases) h = switch on other cases
+  own (op.Ret value) h = absurd cc
+  own op.Unreachable h = unreachable
+
+-- the machine follows each step of a register step
+pub register_step-followed : (setting : MachineSetting) (t : ToldSeen) (m : MachineSeen) (f : Function) (inst : Inst) → IsSetting setting → IsAt setting.program t f inst → is_register_step setting.program inst.op ≡ true → SeenRelated setting t m → IsFollowed setting t m
+register_step-followed setting t m f inst is at computes related input =
+    own setting (next_input input t.shared.source.input) t m f inst is at related inst.op computes refl
     (resolved-at setting.program t.frame.func t.frame.inst f inst is.runnable at.function at.instruction)

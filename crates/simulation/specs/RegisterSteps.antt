@@ -1,5 +1,5 @@
--- Steps that only compute: those of integers, of `select` and `freeze`, of a part of a pair, and fences. They read and write
--- registers alone.
+-- Steps that read and write registers alone: computations on integers and addresses, `select` and `freeze`, a part of a pair,
+-- fences, and branches with the phis on their edges. Comparisons of pointers aren't among them.
 use Rattle.std.specs.Prelude.{◌≡◌, ℕ, Bool, true, false, List, slice_get, Some}
 use Rattle.hw_tags.specs.InputState.{next_input}
 use Rattle.ir_core.specs.declared.ir_module.Function.{Function}
@@ -20,16 +20,21 @@ abbrev pub is_integer_type : IrType → Bool
 is_integer_type (Int width) = true
 is_integer_type other = false
 
--- an instruction that only computes
-abbrev pub is_computing : Module → Op → Bool
-is_computing program (op.Binary kind a b) = true
-is_computing program (op.Icmp pred a b) = is_integer_type (type_of program a.ty)
-is_computing program (op.Cast kind a to) = true
-is_computing program (op.Select cond a b) = true
-is_computing program (op.Freeze a) = true
-is_computing program (op.ExtractValue pair part) = true
-is_computing program op.Fence = true
-is_computing program other = false
+-- an instruction whose step reads and writes registers alone
+abbrev pub is_register_step : Module → Op → Bool
+is_register_step program (op.Binary kind a b) = true
+is_register_step program (op.Icmp pred a b) = is_integer_type (type_of program a.ty)
+is_register_step program (op.Cast kind a to) = true
+is_register_step program (op.Select cond a b) = true
+is_register_step program (op.Freeze a) = true
+is_register_step program (op.ExtractValue pair part) = true
+is_register_step program op.Fence = true
+is_register_step program (op.Gep ty base indices) = true
+is_register_step program (op.Br block) = true
+is_register_step program (op.BrIf cond at_one at_zero) = true
+is_register_step program (op.Switch on other cases) = true
+is_register_step program op.Unreachable = true
+is_register_step program other = false
 
 -- the task's newest frame is at this instruction of this function
 pub record IsAt (program : Module) (t : ToldSeen) (f : Function) (inst : Inst) : Type 0 where
