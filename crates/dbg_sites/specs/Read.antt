@@ -11,11 +11,11 @@ use Rattle.ir_grammar.specs.DebugFields.{Lexeme, lexemes, before, is_comma, insi
 use Rattle.ir_grammar.specs.DebugNodes.{Definition}
 use Rattle.dbg_sites.specs.declared.definitions.KeptNode.{KeptNode}
 
--- the fields of a node, from the tokens behind its bracket on
+-- the fields of a node, from the tokens after its bracket on
 abbrev pub fields_in : List ℕ → List Token → List Field
 fields_in source tokens = fields 0 (inside (lexemes source tokens))
 
--- the value of a field, from the tokens behind its label on
+-- the value of a field, from the tokens after its label on
 abbrev pub value_in : List ℕ → List Token → List Lexeme
 value_in source tokens = before is_comma 0 (inside (lexemes source tokens))
 
@@ -31,7 +31,7 @@ definitions_of source nodes = map (definition_of source) nodes
 abbrev pub is_numbered : List ℕ → KeptNode → Bool
 is_numbered number node = bytes_eq number node.number.now
 
--- the first place, where there is one, else the second
+-- the first place, if there is one, else the second
 abbrev pub place_or : Option ℕ → Option ℕ → Option ℕ
 place_or None other = other
 place_or (Some place) other = Some place

@@ -5,7 +5,7 @@ ghost use Rattle.ir_grammar.specs.DebugNodes.{kind_named, is_kept, named_node, b
 ghost use Rattle.dbg_sites.specs.Read.{fields_in, definition_of, definitions_of};
 
 use crate::fields::first_field;
-use crate::token_tests::{
+use crate::token_kinds::{
     depth_behind, is_distinct, is_meta_name_kind, is_meta_number_kind, is_the,
 };
 use hw_base::OutOfMemory;
@@ -13,7 +13,7 @@ use ir_core::{NodeKind, Token, Tokens};
 use ir_text::number_behind_bang;
 use std::alloc::Global;
 
-/// A kept node: its number without the zeros in front, its kind, and the tokens behind its bracket.
+/// A kept node: its number without the zeros in front, its kind, and the tokens after its bracket.
 #[derive(Clone, Copy)]
 pub(crate) struct KeptNode<'a> {
     pub(crate) number: &'a [u8],

@@ -7,7 +7,7 @@ ghost use Rattle.std.specs.Str.{bytes_eq};
 ghost use Rattle.dbg_sites.specs.Read.{fields_in, value_in};
 ghost use Rattle.ir_grammar.specs.DebugNodes.{field_token};
 
-use crate::token_tests::{closes, depth_behind, is_comma, is_label_kind, opens};
+use crate::token_kinds::{closes, depth_behind, is_comma, is_label_kind, opens};
 use ir_core::{Token, Tokens};
 use ir_text::is_label_of;
 
@@ -24,7 +24,7 @@ fn is_label_named(tokens: &Tokens, token: &Token, name: &[u8]) -> bool
     is_label_kind(token.kind) && is_label_of(tokens.text_of(token), name)
 }
 
-/// The tokens behind the label of the first field of this name, among those inside a node's brackets.
+/// The tokens after the label of the first field of this name, among those inside a node's brackets.
 pub(crate) fn first_field<'a>(
     tokens: &Tokens,
     node: &'a [Token],

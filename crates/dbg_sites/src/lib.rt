@@ -1,7 +1,7 @@
-//! Where in the source an instruction stands: the metadata nodes that a text keeps, read by `read_meta`, and chains of sites of
+//! Where in the source an instruction is: the metadata nodes that a text keeps, read by `read_meta`, and chains of sites of
 //! instructions, kept as numbers: the empty chain is 0, and every other one is an entry of a table, with its front site and
-//! the number of the rest. The layers above follow scopes and inlined calls from the nodes to the function, file, line and
-//! column of an instruction, and record a chain by its number.
+//! the number of the rest. Chains are a definition with its laws. Nothing follows scopes and inlined calls from the nodes to a
+//! function, file, line and column yet.
 #![tactic(auto)]
 
 mod definitions;
@@ -10,7 +10,7 @@ mod fields;
 mod laws;
 mod nodes;
 mod numbers;
-mod token_tests;
+mod token_kinds;
 
 pub use examples::chains_by_example;
 pub use laws::{equal_numbers_are_equal_chains, pushing_puts_a_site_in_front};

@@ -30,7 +30,7 @@ fn shown_node(alloc: Global, node: &Node) -> Result<String, Fail> {
     Ok(format!(in alloc; "{kind}{line}:{column} s{scope} i{inlined} f{file} {name}|")?)
 }
 
-/// The kept nodes of a text, one behind the other.
+/// The kept nodes of a text, one after the other.
 fn shown(alloc: Global, text: &[u8]) -> Result<String, Fail> {
     if text.len() > 16777216 {
         return Err(Fail::from("too long"));

@@ -5,7 +5,7 @@ ghost use Rattle.dbg_sites.specs.Read.{fields_in, definition_of, definitions_of,
 use crate::definitions::{KeptNode, kept_nodes};
 use crate::fields::field_token;
 use crate::numbers::{location_field, node_field, places_of};
-use crate::token_tests::{is_integer_kind, is_text_kind};
+use crate::token_kinds::{is_integer_kind, is_text_kind};
 use hw_base::{ByteList, OutOfMemory};
 use ir_core::{Meta, Node, NodeKind, Token, Tokens};
 use ir_text::{line_or_column, string_bytes};
@@ -166,7 +166,7 @@ fn nodes_of(
 
 /// The metadata nodes that a text keeps, in order of the text (LLVM Language Reference, "Metadata"): each `DILocation`,
 /// `DISubprogram` and `DIFile`, and each other named node with a field `scope:`. A node's number is its place here, counted
-/// from 0. Any tokens will do, below 2^32 of them; a text of at most 16 MiB has far fewer. The only error is want of memory.
+/// from 0. Any tokens will do, below 2^32 of them; a text of at most 16 MiB has far fewer. The only error is that memory ran out.
 pub fn read_meta(alloc: Global, tokens: &Tokens) -> Result<Meta, OutOfMemory>
     requires { length tokens.now.tokens < 2 ^ 32 }
     ensures nodes { IfOk result (λ meta. meta ≡ kept_nodes tokens.now.source tokens.now.tokens) }

@@ -6,7 +6,7 @@ ghost use Rattle.dbg_sites.specs.Read.{fields_in, definitions_of, place_or, plac
 
 use crate::definitions::KeptNode;
 use crate::fields::field_token;
-use crate::token_tests::is_meta_number_kind;
+use crate::token_kinds::is_meta_number_kind;
 use hw_base::OutOfMemory;
 use ir_core::{NodeKind, Token, Tokens};
 use ir_text::number_behind_bang;

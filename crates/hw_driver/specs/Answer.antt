@@ -1,6 +1,7 @@
 -- What the program decides on by the words and the file, and how it delivers that.
 use Rattle.std.specs.Prelude.{◌≡◌, ◌⊎◌, ℕ, ◌<◌, ◌≤◌, ◌^◌, nat_le, List, [], ◌∷◌, ◌++◌, length, Option, Some, None, ⊤, if◌then◌else◌}
 use Rattle.std.specs.Io.KnownBytes.{Appends}
+use Rattle.hw_base.specs.declared.numbers.TheConstants.{MOST_TEXT}
 use Rattle.hw_base.specs.declared.endings.Status.{Status}
 use Rattle.hw_base.specs.declared.endings.Status.TheVariants.{Ended, Reported, BadWords, Refused, FileFault, WriteFault, Memory}
 use Rattle.hw_ports.specs.Causes.{Rose}
@@ -19,17 +20,14 @@ pub record Decision : Type 0 where
   pub output : List ℕ
   pub text : List ℕ
 
--- the bytes of a file of at most 16 MiB, or word that it is longer
+-- the bytes of a file of at most `MOST_TEXT` bytes, or word that it is longer
 pub data FileRead : Type 0 where
   Whole : List ℕ → FileRead
   TooLong : FileRead
 
-abbrev pub text_limit : ℕ
-text_limit = 2 ^ 24
-
 -- how a file of these bytes is read
 abbrev pub read_of : List ℕ → FileRead
-read_of bytes = if nat_le (length bytes) text_limit then Whole bytes else TooLong
+read_of bytes = if nat_le (length bytes) MOST_TEXT then Whole bytes else TooLong
 
 -- a file with this content may be read so
 abbrev pub ReadsAs : Content → FileRead → Type 0
@@ -135,7 +133,7 @@ abbrev pub Decides : FilesChange → Option Line → Decision → Type 0
 Decides files None d = ReadsNothing files × NoReadFailed files × (d ≡ bad_words_decision)
 Decides files (Some l) d = Judges files l d
 
--- what a call did to a sink: the bytes that it took, where they are observable, and its count of faults
+-- what a call did to a sink: the bytes that it took, if they are observable, and its count of faults
 pub record SinkChange : Type 0 where
   pub taken_before : Option (List ℕ)
   pub taken_after : Option (List ℕ)
@@ -161,7 +159,7 @@ pub record TookFront (c : SinkChange) (text : List ℕ) : Type 0 where
   pub later : c.faults_before ≤ c.faults_after
   pub rose : Rose c.faults_before c.faults_after
 
--- How a decision is delivered: the output goes to `out`, then the closing text to `err`. A fault of `out` is told on `err`;
+-- How a decision is delivered: the output goes to `out`, then the closing text to `err`. A fault of `out` is reported on `err`;
 -- after a fault nothing more is written to that port.
 pub data Delivers (d : Decision) (result : Status) (out err : SinkChange) : Type 0 where
   delivered : result ≡ d.status → TookAll out d.output → TookAll err d.text → Delivers d result out err

@@ -11,7 +11,7 @@ use Rattle.hw_driver.specs.Machine.{FailedCheck}
 use Rattle.hw_driver.specs.Closing.{ended_line, report_lines}
 use Rattle.hw_driver.specs.Answer.{SinkChange}
 
--- what the tag rule finds at a violation in a state of the source, with the global's tag: what refuses it, or none where it passes
+-- what the tag rule finds at a violation in a state of the source, with the global's tag: what refuses it, or none if it passes
 abbrev pub refusing_at : ℕ → SourceState → Violation → Option Mismatch
 refusing_at tag s v = refusing_of (memory_tag (length s.bytes) tag) (last_byte s.bytes) (global_pointer tag v.offset)
 
@@ -28,7 +28,7 @@ report_of tag v found = record {
 }
 
 -- While the program meets no violation, its output is printed and there is no report. At its first violation the same output has
--- been printed, and the access is reported exactly where the tag rule refuses it. For one global the rule always does.
+-- been printed, and the access is reported exactly if the tag rule refuses it. For one global the rule always does.
 pub record Detects (tag : ℕ) (p : Program) (result : Status) (out err : SinkChange) : Type 0 where
   pub same_output : (output : List ℕ) (step : ℕ) → source_run p ≡ Exits output step → Appends out.taken_before out.taken_after output
   pub no_report : (output : List ℕ) (step : ℕ) → source_run p ≡ Exits output step → result ≡ Ended

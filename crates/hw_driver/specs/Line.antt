@@ -5,7 +5,7 @@ use Rattle.std.specs.List.{starts_with, list_all}
 use Rattle.std.specs.Str.{bytes_eq}
 use Rattle.std.specs.Str.Parse.{digits_value}
 
--- a command: the FILE word, and the tag word where it is given
+-- a command: the FILE word, and the tag word if it is given
 pub record Line : Type 0 where
   pub file : List ℕ
   pub word : Option ℕ

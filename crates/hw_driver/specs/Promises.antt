@@ -12,7 +12,7 @@ use Rattle.hw_driver.specs.Machine.{machine_run}
 use Rattle.hw_driver.specs.Closing.{usage_line, file_fault_line, write_fault_line, memory_line}
 use Rattle.hw_driver.specs.Answer.{Decision, FileRead, FilesChange, ReadsNothing, ReadsOnce, ReadsAs, IsAccepted, SinkChange, TookAll, TookFront, read_of, tag_under, ending_decision, bad_words_decision, refused_decision}
 
--- how often a name stands among these
+-- how often a name is among these
 abbrev pub times : List ℕ → List (List ℕ) → ℕ
 times name names = count_by (λ other. bytes_eq other name) names
 

@@ -1,4 +1,4 @@
--- Reading the spelling of a program: each definition gives what stands at the front of a text, and the text after it.
+-- Reading the spelling of a program: each definition gives what is at the front of a text, and the text after it.
 -- That these read exactly the spelling of Program.antt is proved.
 use Rattle.std.specs.Prelude.{◌≡◌, ◌≤◌, ℕ, zero, suc, ◌+◌, ◌%◌, ◌^◌, ◌==◌, List, [], ◌∷◌, length, take, drop, Option, Some, None, Bool, ◌&&◌, ◌||◌, not, nat_lt, nat_le, nat_eq, if◌then◌else◌, codes, slice_index, option_map, option_and_then}
 use Rattle.std.specs.List.{starts_with, prefix_len}
@@ -26,7 +26,7 @@ o >>= f = option_and_then f o
 abbrev pub after : List ℕ → List ℕ → Option (List ℕ)
 after front text = if starts_with nat_eq text front then Some (drop (length front) text) else None
 
--- how many digits stand at the front
+-- how many digits are at the front
 abbrev pub digit_count : List ℕ → ℕ
 digit_count text = prefix_len is_ascii_digit text
 
@@ -34,7 +34,7 @@ digit_count text = prefix_len is_ascii_digit text
 abbrev pub is_numeral : List ℕ → Bool
 is_numeral digits = nat_lt 0 (length digits) && (not (slice_index digits 0 == 48) || (length digits == 1))
 
--- the number that these digits spell, where it is one of 32 bits
+-- the number that these digits spell, if it is one of 32 bits
 unfoldable pub value_of : List ℕ → Option ℕ
 value_of digits = if is_numeral digits && nat_lt (digits_value 10 digits) (2 ^ 32) then Some (digits_value 10 digits) else None
 
@@ -118,7 +118,7 @@ head_at text = do
   size ← numbered_at (codes "@g = global [") (codes " x i8] zeroinitializer\ndeclare i32 @putchar(i32)\ndefine i32 @main() {\n") text
   if is_size size.0 then Some size else None
 
--- the program, where nothing stands behind its end
+-- the program, if nothing follows its end
 abbrev pub ended_at : ℕ → List Group × List ℕ → Option Program
 ended_at size groups = if bytes_eq groups.1 end_text then Some (record { size = size; groups = groups.0 }) else None
 

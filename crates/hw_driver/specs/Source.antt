@@ -10,7 +10,7 @@ use Rattle.hw_driver.specs.declared.program.Group.{Group}
 use Rattle.hw_driver.specs.declared.program.Group.TheVariants.{Store, Load}
 use Rattle.hw_driver.specs.Program.{Program}
 
--- what the access rule answers
+-- what the access rule says
 pub data AccessAnswer : Type 0 where
   Fine : AccessAnswer
   Violated : Kind → AccessAnswer
@@ -49,7 +49,7 @@ pub data SourceStep : Type 0 where
   Goes : SourceState → SourceStep
   Violates : Violation → SourceStep
 
--- an access of one byte, and what follows where it is fine
+-- an access of one byte, and what follows if it is fine
 abbrev pub on_access : SourceState → Access → ℕ → SourceState → AccessAnswer → SourceStep
 on_access s access offset next Fine = Goes next
 on_access s access offset next (Violated kind) = Violates (violation_at s access offset kind)

@@ -30,20 +30,20 @@ is_of_stacks_or_heap address = is_within (2 ^ 28) (2 ^ 28 + 2 ^ 24) address || i
 abbrev pub end_in_granule : ℕ → ℕ
 end_in_granule address = address % 16 + 1
 
--- what is found where the granule of an address has this memory tag and last byte, or none where the tags agree
+-- what is found if the granule of an address has this memory tag and last byte, or none if the tags agree
 abbrev pub mismatch_at : ℕ → Option ℕ → ℕ → Option Mismatch
 mismatch_at number None last = Some (Unmapped (address_of number))
 mismatch_at number (Some memory) last =
     if tags_agree (pointer_tag number) memory (end_in_granule (address_of number)) last then None
     else Some (Tags (address_of number / 16 * 16) (pointer_tag number) memory last (end_in_granule (address_of number)))
 
--- The tag rule for an access of one byte at a number: what refuses it, or none where it passes. The memory tag and the last
+-- The tag rule for an access of one byte at a number: what refuses it, or none if it passes. The memory tag and the last
 -- byte are functions of the first address of a granule.
 unfoldable pub refusing_of : (ℕ → Option ℕ) → (ℕ → ℕ) → ℕ → Option Mismatch
 refusing_of tag last number = mismatch_at number (tag (address_of number / 16 * 16)) (last (address_of number / 16 * 16))
 
 -- The memory tag of a granule by the objects: the global's tag in the global, 0 in other mapped memory, since nothing was born
--- there, and none where nothing is mapped. The global has whole granules alone.
+-- there, and none if nothing is mapped. The global has whole granules alone.
 abbrev pub memory_tag : ℕ → ℕ → ℕ → Option ℕ
 memory_tag size tag granule =
     if is_of_global size granule then Some tag else (if is_of_stacks_or_heap granule then Some 0 else None)

@@ -16,7 +16,7 @@ program_view p = record { size = p.size; groups = p.groups }
 abbrev pub failed_view : failed.FailedCheck → FailedCheck
 failed_view f = record { access = f.access; size = f.size; number = f.number; task = f.task; step = f.step; chain = chain_at f.step; found = f.found }
 
--- what a step answered, and the state that it left
+-- what a step returned, and the state that it left
 abbrev pub step_view : MachineState → Option failed.FailedCheck → MachineStep
 step_view m None = Goes m
 step_view m (Some f) = Reports (failed_view f)

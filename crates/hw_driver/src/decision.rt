@@ -2,7 +2,7 @@ ghost use Rattle.std.specs.Prelude.{◌≡◌};
 
 use hw_base::{ByteList, Status};
 
-/// A closing text. Those that tell of a failure take no memory.
+/// A closing text. Those that report a failure take no memory.
 #[derive(Drop)]
 pub enum Text {
     Usage,

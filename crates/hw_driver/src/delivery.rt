@@ -52,7 +52,7 @@ fn send_lines<S: Sink>(sink: &mut S, text: &[u8]) -> Result<(), Failed>
     Ok(())
 }
 
-/// Delivers a decision: its output to `out`, then its closing text to `err` line by line. A fault of `out` is told on
+/// Delivers a decision: its output to `out`, then its closing text to `err` line by line. A fault of `out` is reported on
 /// `err`; after a fault nothing more is written to that port.
 pub fn deliver<O: Sink, E: Sink>(decision: &Decision, out: &mut O, err: &mut E) -> Status
     ensures delivers { Delivers (decision_view decision.now) result (sink_change O.taken O.faults out.old out.new) (sink_change E.taken E.faults err.old err.new) }

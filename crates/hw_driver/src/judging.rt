@@ -12,12 +12,10 @@ use crate::reading::read_program;
 use crate::runner::{Ending, Ran};
 use crate::running::run;
 use crate::words::{Command, line_of};
-use hw_base::{ByteList, OutOfMemory, Status};
+use hw_base::{ByteList, MOST_TEXT, OutOfMemory, Status};
 use hw_ports::{FileError, FileText, Files};
 use hw_tags::{Words, WordsSpec, global_tag};
 use std::alloc::Global;
-
-const TEXT_LIMIT: u64 = 1 << 24;
 
 // A decision without output that takes no memory.
 fn plain_decision(alloc: Global, status: Status, text: Text) -> Decision
@@ -98,7 +96,7 @@ fn judge_file<F: Files>(
     ensures failed { F.failed files.new ≡ failed_after result (F.failed files.old) command.now.file.now }
 {
     let mut text = Vec::new(alloc);
-    let judged = match files.read(alloc, command.file, TEXT_LIMIT, &mut text) {
+    let judged = match files.read(alloc, command.file, MOST_TEXT, &mut text) {
         Ok(FileText::Whole) => judge_text(alloc, command, &text),
         Ok(FileText::Longer) => refused(alloc),
         Err(error) => return Err(error),

@@ -61,7 +61,7 @@ fn tags_agree(pointer: u8, memory: u8, end: u8, last: u8) -> bool
     pointer == memory || 1 <= memory && memory <= 15 && end <= memory && pointer == last
 }
 
-// What is found where the granule of an address has this memory tag and last byte.
+// What is found if the granule of an address has this memory tag and last byte.
 fn mismatch_at(number: u64, memory: Option<u8>, last: u8) -> Option<Mismatch>
     ensures { result ≡ mismatch_at number memory last }
 {

@@ -17,7 +17,7 @@ pub fn after<'a>(front: &[u8], text: &'a [u8]) -> Option<&'a [u8]>
     }
 }
 
-// How many digits stand at the front.
+// How many digits are at the front.
 fn digit_count(text: &[u8]) -> usize
     ensures count { result ≡ digit_count text.now }
     ensures within { result ≤ length text.now }
@@ -34,7 +34,7 @@ fn is_numeral(digits: &[u8]) -> bool
     }
 }
 
-// The number that these digits spell, where it is one of 32 bits.
+// The number that these digits spell, if it is one of 32 bits.
 #[tactic(auto, unfolding(crate::specs::Reading::value_of))]
 fn value_of(digits: &[u8]) -> Option<u32>
     requires { all_ascii_digits digits.now ≡ true }

@@ -27,7 +27,7 @@ fn read_groups(alloc: Global, text: &[u8]) -> Result<(GroupList, &[u8]), OutOfMe
     Ok((groups, rest))
 }
 
-/// The program that a text spells, or none where it spells none.
+/// The program that a text spells, or none if it spells none.
 #[tactic(auto, unfolding(crate::specs::Reading::program_of))]
 pub fn read_program(alloc: Global, text: &[u8]) -> Result<Option<Program>, OutOfMemory>
     ensures { IfOk result (λ program. option_map program_view program ≡ program_of text.now) }

@@ -35,7 +35,7 @@ fn answer<F: Files, O: Sink, E: Sink>(
 /// and the closing text to `err`, line by line. All memory is taken before the first write.
 ///
 /// `run FILE` and `run FILE --tags W` are commands, where FILE doesn't begin with a dash and W is a number from 0 to 255
-/// in decimal digits. A text is accepted where it spells a program of one global; the run checks each access by tags as
+/// in decimal digits. A text is accepted if it spells a program of one global; the run checks each access by tags as
 /// Clang's HardwareAssistedAddressSanitizer does, and ends with a report at the first check that fails.
 pub fn hwasan<F: Files, I: Source, O: Sink, E: Sink>(
     alloc: Global,
@@ -70,7 +70,7 @@ pub fn hwasan<F: Files, I: Source, O: Sink, E: Sink>(
         → IsExact (line (texts words.now)) (files_change F.content F.reads F.failed files.old files.new) result
         (sink_change O.taken O.faults out.old out.new) (sink_change E.taken E.faults err.old err.new) }
 
-    // With a fault or without memory, the bytes are a front of those, and the closing line tells which.
+    // With a fault or without memory, the bytes are a front of those, and the closing line says which.
     ensures closing { Closes (line (texts words.now)) (files_change F.content F.reads F.failed files.old files.new)
         (sink_change O.taken O.faults out.old out.new) (sink_change E.taken E.faults err.old err.new) result }
 

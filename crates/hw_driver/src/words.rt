@@ -4,7 +4,7 @@ ghost use Rattle.std.specs.List.{list_all};
 ghost use Rattle.hw_driver.specs.Line.{is_file, is_number, tag_word, plain_line, tagged_line, line};
 ghost use Rattle.hw_driver.specs.LineView.{line_view, texts};
 
-/// A command: the FILE word, and the tag word where it is given.
+/// A command: the FILE word, and the tag word if it is given.
 #[derive(Clone, Copy)]
 pub struct Command<'a> {
     pub file: &'a str,

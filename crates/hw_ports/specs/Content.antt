@@ -1,11 +1,11 @@
--- What stands under a file's name, and what a read of it gives.
+-- What is under a file's name, and what a read of it gives.
 use Rattle.std.specs.Prelude.{◌≡◌, ◌⊎◌, ℕ, ◌<◌, ◌≤◌, List, [], ◌∷◌, ◌++◌, length, Result, Ok, Err, ⊤}
 use Rattle.hw_ports.specs.declared.ports.FileText.{FileText}
 use Rattle.hw_ports.specs.declared.ports.FileText.TheVariants.{Whole, Longer}
 use Rattle.hw_ports.specs.declared.ports.FileError.{FileError}
 use Rattle.hw_ports.specs.declared.ports.FileError.TheVariants.{Failed, OutOfMemory}
 
--- what stands under a name
+-- what is under a name
 pub data Content : Type 0 where
   Unobservable : Content
   Absent : Content

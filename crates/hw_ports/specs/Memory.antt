@@ -23,7 +23,7 @@ pub record SourceState : Type 0 where
 abbrev pub SourceFails : SourceState → Type 0
 SourceFails s = IsTrue (is_listed s.failing (one_more s.calls))
 
--- how many bytes the next read into so much room gives, where it doesn't fail
+-- how many bytes the next read into so much room gives, if it doesn't fail
 abbrev pub source_count : SourceState → ℕ → ℕ
 source_count s room = min room (min s.piece (length s.left))
 
@@ -51,7 +51,7 @@ sink_fails s = (s.room - length s.taken == 0) || is_listed s.failing (one_more s
 abbrev pub SinkFails : SinkState → Type 0
 SinkFails s = IsTrue (sink_fails s)
 
--- how many bytes of a piece of so many the next write takes, where it doesn't fail
+-- how many bytes of a piece of so many the next write takes, if it doesn't fail
 abbrev pub sink_count : SinkState → ℕ → ℕ
 sink_count s size = min size (min (s.room - length s.taken) s.piece)
 
@@ -66,7 +66,7 @@ sink_after s bytes =
 abbrev pub first_of : List StoredFile → List ℕ → Option StoredFile
 first_of files name = find (λ file. bytes_eq file.name name) files
 
--- what stands under a name: the text of the first file of that name
+-- what is under a name: the text of the first file of that name
 abbrev pub content_of : Option StoredFile → Content
 content_of None = Absent
 content_of (Some file) = Bytes file.text
@@ -82,6 +82,6 @@ pub record FilesState : Type 0 where
   pub failing : List ℕ
   pub calls : ℕ
 
--- nothing stands under the name, or the next read is listed
+-- nothing is under the name, or the next read is listed
 abbrev pub FileFails : FilesState → List ℕ → Type 0
 FileFails f name = IsTrue (is_listed f.failing (one_more f.calls) || is_none (first_of f.files name))

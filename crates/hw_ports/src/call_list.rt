@@ -27,7 +27,7 @@ impl CallList {
         }
     }
 
-    /// Lists a call, counted from 1. After want of memory the list is as before.
+    /// Lists a call, counted from 1. After memory ran out the list is as before.
     pub fn push(&mut self, call: u64) -> Result<(), OutOfMemory>
         ensures ok { OnOk result (self.new ≡ self.old ++ call ∷ []) }
         ensures err { OnErr result (self.new ≡ self.old) }

@@ -1,7 +1,7 @@
 use hw_base::OutOfMemory;
 use thiserror::Error;
 
-/// Why a job that reads input and writes output gave no answer. A fault comes only where the count of that port rose.
+/// Why a job that reads input and writes output returned no result. A fault comes only if the count of that port rose.
 #[derive(Clone, Copy, Debug, PartialEq, Eq, Error)]
 pub enum JobError {
     #[error("the input could not be read")]
@@ -12,7 +12,7 @@ pub enum JobError {
     OutOfMemory,
 }
 
-/// Why a job that only reads input gave no answer. The fault comes only where the count of that port rose.
+/// Why a job that only reads input returned no result. The fault comes only if the count of that port rose.
 #[derive(Clone, Copy, Debug, PartialEq, Eq, Error)]
 pub enum AuditError {
     #[error("the input could not be read")]

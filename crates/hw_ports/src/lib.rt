@@ -1,6 +1,6 @@
 //! The program's environment as traits: files that are read by name, a source of input and a sink for output, each
 //! with a written meaning and a count of faults. The jobs above are generic over these traits, so their contracts can
-//! say which bytes moved, and that a fault is answered only where a count rose.
+//! say which bytes moved, and that a fault is answered only if a count rose.
 #![tactic(auto)]
 
 mod call_list;

@@ -47,7 +47,7 @@ impl MemFiles {
         }
     }
 
-    /// Puts bytes under a name. Of a name that is added twice the first counts. After want of memory the files are
+    /// Puts bytes under a name. Of a name that is added twice the first counts. After memory ran out the files are
     /// as before.
     pub fn add(&mut self, name: &str, text: &[u8]) -> Result<(), OutOfMemory>
         ensures ok { OnOk result (self.new ≡ record self.old { files = self.old.files ++ record { name = name.now; text = text.now } ∷ [] }) }

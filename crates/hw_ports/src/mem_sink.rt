@@ -38,7 +38,7 @@ impl Model for MemSink {
 }
 
 impl MemSink {
-    /// A sink that has room for `room` bytes and takes at most `piece` bytes a write, where `piece` is at least 1. The
+    /// A sink that has room for `room` bytes and takes at most `piece` bytes a write. `piece` is at least 1. The
     /// writes of `fail` fail, counted from 1.
     pub fn new(alloc: Global, room: u64, piece: u32, fail: CallList) -> Result<MemSink, OutOfMemory>
         requires { 0 < piece }
@@ -67,7 +67,7 @@ impl Sink for MemSink {
 
     ghost faults = { λ s. s.faults };
 
-    /// Fails exactly at a listed write and where the room is used up.
+    /// Fails exactly at a listed write and when the room is used up.
     fn write(&mut self, piece: &[u8]) -> Result<usize, Failed>
         ensures bound { WritesAtMost result piece.now }
         ensures some { IfOk result (λ count. 0 < length piece.now → 0 < count) }

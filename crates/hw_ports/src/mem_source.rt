@@ -29,7 +29,7 @@ impl Model for MemSource {
 }
 
 impl MemSource {
-    /// The bytes as input, at most `piece` bytes a read, where `piece` is at least 1. The reads of `fail` fail,
+    /// The bytes as input, at most `piece` bytes a read. `piece` is at least 1. The reads of `fail` fail,
     /// counted from 1.
     pub fn new(
         alloc: Global,

@@ -26,7 +26,7 @@ impl Model for NoFaultSource {
 }
 
 impl NoFaultSource {
-    /// The bytes as input, at most `piece` bytes a read, where `piece` is at least 1.
+    /// The bytes as input, at most `piece` bytes a read. `piece` is at least 1.
     pub fn new(alloc: Global, bytes: &[u8], piece: u32) -> Result<NoFaultSource, OutOfMemory>
         requires { 0 < piece }
         ensures { IfOk result (λ s. s ≡ record { left = bytes.now; piece = piece }) }

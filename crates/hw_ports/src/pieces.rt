@@ -29,7 +29,7 @@ impl Rest {
         })
     }
 
-    /// Moves the front to the front of `into`, at most `most` bytes, and answers how many.
+    /// Moves the front to the front of `into`, at most `most` bytes, and returns how many.
     pub fn give(&mut self, into: &mut [u8], most: usize) -> usize
         ensures count { result ≡ min (length into.old) (min most (length self.old)) }
         ensures bytes { self.old ≡ take result into.new ++ self.new }
@@ -42,7 +42,7 @@ impl Rest {
     }
 }
 
-// Copies the front of `from` to the front of `into`, at most `most` bytes, and answers how many.
+// Copies the front of `from` to the front of `into`, at most `most` bytes, and returns how many.
 fn copy_front(from: &[u8], into: &mut [u8], most: usize) -> usize
     ensures count { result ≡ min (length into.old) (min most (length from.now)) }
     ensures bytes { take result into.new ≡ take result from.now }

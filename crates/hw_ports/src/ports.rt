@@ -41,9 +41,9 @@ impl From<AllocError> for FileError {
     }
 }
 
-/// Files by their names. What stands under a name is observable or not; over memory it is.
+/// Files by their names. What is under a name is observable or not; over memory it is.
 pub trait Files {
-    /// What stands under a name: these bytes, nothing, or something that can't be observed.
+    /// What is under a name: these bytes, nothing, or something that can't be observed.
     ghost content: { Self → List ℕ → Content };
 
     /// The names that were read, the oldest first. It only grows; a read that ends because memory ran out may leave no
@@ -51,11 +51,11 @@ pub trait Files {
     ghost reads: { Self → List (List ℕ) };
 
     /// The names whose reads failed, the oldest first. It only grows, and a name's count of faults is how often it
-    /// stands there.
+    /// is there.
     ghost failed: { Self → List (List ℕ) };
 
-    /// Reads the file of a name into `into`, which is empty. `Longer` comes exactly where the read doesn't fail and
-    /// the file has more than `limit` bytes. A name under which nothing stands is `Failed`. Memory for the lists of
+    /// Reads the file of a name into `into`, which is empty. `Longer` comes exactly if the read doesn't fail and
+    /// the file has more than `limit` bytes. A name under which there is nothing is `Failed`. Memory for the lists of
     /// names is taken before the read. With `Longer` or an error nothing is said of what `into` holds.
     fn read(
         &mut self,
@@ -73,14 +73,14 @@ pub trait Files {
 
 /// A source of bytes.
 pub trait Source {
-    /// The bytes that are left, where that is observable.
+    /// The bytes that are left, if that is observable.
     ghost left: { Self → Option (List ℕ) };
 
     /// How often a read failed. It never falls.
     ghost faults: { Self → ℕ };
 
-    /// Gives the next bytes, at most as many as `into` has room for, and answers how many: 0 for a slice that isn't
-    /// empty is the end. A failed read gives none. A read into an empty slice answers 0 and is no read.
+    /// Gives the next bytes, at most as many as `into` has room for, and returns how many: 0 for a slice that isn't
+    /// empty is the end. A failed read gives none. A read into an empty slice returns 0 and is no read.
     fn read(&mut self, into: &mut [u8]) -> Result<usize, Failed>
         ensures bound { ReadsAtMost result into.new }
         ensures empty { length into.old ≡ 0 → result ≡ Ok 0 }
@@ -90,7 +90,7 @@ pub trait Source {
 
 /// A sink of bytes.
 pub trait Sink {
-    /// The bytes that it took, where that is observable.
+    /// The bytes that it took, if that is observable.
     ghost taken: { Self → Option (List ℕ) };
 
     /// The pieces that it was given, the oldest first, when that is observable.
@@ -99,8 +99,8 @@ pub trait Sink {
     /// How often a write failed. It never falls.
     ghost faults: { Self → ℕ };
 
-    /// Takes a prefix of the piece, at least one byte of a piece that isn't empty, and answers how many. A failed
-    /// write takes none. A write of an empty piece answers 0 and is no write.
+    /// Takes a prefix of the piece, at least one byte of a piece that isn't empty, and returns how many. A failed
+    /// write takes none. A write of an empty piece returns 0 and is no write.
     fn write(&mut self, piece: &[u8]) -> Result<usize, Failed>
         ensures bound { WritesAtMost result piece.now }
         ensures some { IfOk result (λ count. 0 < length piece.now → 0 < count) }

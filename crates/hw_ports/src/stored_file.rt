@@ -3,7 +3,7 @@ ghost use Rattle.std.specs.Prelude.{◌≡◌, ◌∷◌, [], ◌++◌, ◌+◌,
 use hw_base::ByteList;
 use std::alloc::{AllocError, Global};
 
-/// A name and the bytes that stand under it.
+/// A name and the bytes that are under it.
 #[derive(Drop)]
 pub struct StoredFile {
     pub name: ByteList,

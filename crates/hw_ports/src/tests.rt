@@ -18,7 +18,7 @@ fn calls(alloc: Global, numbers: &[u64]) -> Result<CallList, OutOfMemory> {
     Ok(calls)
 }
 
-/// A read, and the bytes that it gave where they are whole.
+/// A read, and the bytes that it gave if they are whole.
 fn read_file<F: Files>(
     files: &mut F,
     alloc: Global,

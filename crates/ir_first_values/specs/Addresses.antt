@@ -20,7 +20,7 @@ variable_address (Some (Some g)) = Some (record { variable = Some g; offset = 0 
 variable_address (Some None) = None
 variable_address None = None
 
--- so many values of a type behind a place, modulo 2^64
+-- so many values of a type after a place, modulo 2^64
 abbrev pub scaled_by : Tables → ℕ → Option ℕ → Option TypePart
 scaled_by t ty (Some n) = Some (record { ty = ty; offset = n * counted_size t ty % 2 ^ 64 })
 scaled_by t ty None = None
@@ -74,7 +74,7 @@ plain_address t c constants.Null = Some null_address
 plain_address t c constants.Zero = Some null_address
 plain_address t c other = None
 
--- the same, or a `getelementptr` on an address that stands inside its brackets
+-- the same, or a `getelementptr` on an address that is inside its brackets
 abbrev pub address_by : Tables → (ℕ → Option Address) → ℕ → SpelledConstant → Option Address
 address_by t inside c (constants.Address of base first count) = indexed t of (items_from first count t.indices) (inside base)
 address_by t inside c other = plain_address t c other
@@ -84,7 +84,7 @@ abbrev pub if_there : {A : Type 0} → Option SpelledConstant → (SpelledConsta
 if_there (Some constant) go = go constant
 if_there None go = None
 
--- the address that a constant spells, where so many brackets may stand around one another
+-- the address that a constant spells, with so many brackets within one another at most
 unfoldable pub address_of : ℕ → Tables → ℕ → Option Address
 address_of zero t c = if_there (slice_get t.constants c) (plain_address t c)
 address_of (suc levels) t c = if_there (slice_get t.constants c) (address_by t (address_of levels t) c)

@@ -38,7 +38,7 @@ integer_value at other value = None
 abbrev pub bool_in : Bool → ℕ → Option ℕ
 bool_in b width = if width == 1 then Some (if b then 1 else 0) else None
 
--- an address as an operand: behind a variable's start, null, or so many bytes behind null
+-- an address as an operand: so many bytes after a variable's start or after null, or null
 abbrev pub operand_of : Option ℕ → ℕ → Operand
 operand_of (Some g) offset = Global g offset
 operand_of None offset = if offset == 0 then Null else Number offset
@@ -79,7 +79,7 @@ byte_pieces t ty at k (b ∷ bytes) = byte_piece at b (part_of t ty k) ++ byte_p
 abbrev pub bytes_value : Tables → ℕ → ℕ → List ℕ → Option (List Part)
 bytes_value t ty at bytes = if is_i8_array_of t (length bytes) (type_at t ty) then Some (byte_pieces t ty at 0 bytes) else None
 
--- the bytes that a byte string stands for: those of the string behind its `c`
+-- the bytes that a byte string stands for: those of the string after its `c`
 abbrev pub string_of : Tables → Token → List ℕ
 string_of t name = string_bytes_of (drop 1 (bytes_of t.source name))
 
@@ -96,7 +96,7 @@ flat_value t levels ty c at other = None
 
 -- ---- arrays and structs
 
--- both, one behind the other
+-- both, one after the other
 abbrev pub joined : Option (List Part) → Option (List Part) → Option (List Part)
 joined (Some xs) (Some ys) = Some (xs ++ ys)
 joined (Some xs) None = None
@@ -116,7 +116,7 @@ elements_value t inside ty at k (e ∷ es) = joined (element_by t inside at e (p
 abbrev pub elements_of : Tables → (ℕ → ℕ → ℕ → Option (List Part)) → ℕ → ℕ → Bool → List TypedConstant → Option (List Part)
 elements_of t inside ty at fits es = if fits then elements_value t inside ty at 0 es else None
 
--- a constant, whose elements stand inside its brackets
+-- a constant, whose elements are inside its brackets
 abbrev pub nested_value : Tables → (ℕ → ℕ → ℕ → Option (List Part)) → ℕ → ℕ → ℕ → ℕ → SpelledConstant → Option (List Part)
 nested_value t inside levels ty c at (constants.Array first count) =
     elements_of t inside ty at (is_array_of (length (items_from first count t.elements)) (type_at t ty)) (items_from first count t.elements)
@@ -124,7 +124,7 @@ nested_value t inside levels ty c at (constants.Struct first count packed) =
     elements_of t inside ty at (is_struct_of packed (length (items_from first count t.elements)) (type_at t ty)) (items_from first count t.elements)
 nested_value t inside levels ty c at other = flat_value t levels ty c at other
 
--- the pieces of a constant as a value of a type, from byte `at` on, where so many brackets may stand around one another
+-- the pieces of a constant as a value of a type, from byte `at` on, with so many brackets within one another at most
 unfoldable pub first_value : ℕ → Tables → ℕ → ℕ → ℕ → Option (List Part)
 first_value zero t ty c at = if_there (slice_get t.constants c) (flat_value t zero ty c at)
 first_value (suc levels) t ty c at = if_there (slice_get t.constants c) (nested_value t (first_value levels t) (suc levels) ty c at)

@@ -1,4 +1,4 @@
--- What pieces of a first value are, where the type has a size of at most 2^40 bytes and names stand for variables that are
+-- What pieces of a first value are, if the type has a size of at most 2^40 bytes and names stand for variables that are
 -- there.
 use Rattle.std.specs.Prelude.{ℕ, ◌+◌, ◌<◌, ◌≤◌, List, Option, IfSome, All}
 use Rattle.ir_core.specs.declared.operands.Part.{Part}

@@ -83,14 +83,14 @@ is_sized t n = has_size_of t.types t.fields n
 abbrev pub is_fitting : List IrType → List ℕ → ℕ → Bool
 is_fitting types fields n = has_size_of types fields n && nat_le (alloc_size_of types fields n) (2 ^ 40)
 
--- the alloc size of a type, 0 where it is above 2^40: a module that needs such a type is refused
+-- the alloc size of a type, 0 if it is above 2^40: a module that needs such a type is refused
 abbrev pub counted_size : Tables → ℕ → ℕ
 counted_size t n = if is_fitting t.types t.fields n then alloc_size_of t.types t.fields n else 0
 
 -- ---- parts of types
 
--- an offset in a type, 0 where the type's size or the offset is above 2^40: a module that needs such a type is refused,
--- and in a type of at most 2^40 bytes no part begins behind them
+-- an offset in a type, 0 if the type's size or the offset is above 2^40: a module that needs such a type is refused,
+-- and in a type of at most 2^40 bytes no part begins after them
 abbrev pub counted_offset : Tables → ℕ → ℕ → ℕ
 counted_offset t ty offset = if is_fitting t.types t.fields ty && nat_le offset (2 ^ 40) then offset else 0
 
@@ -99,7 +99,7 @@ abbrev pub field_part : Tables → ℕ → ℕ → Option ℕ → Option TypePar
 field_part t ty k (Some field) = Some (record { ty = field; offset = counted_offset t ty (field_offset_of t.types t.fields ty k) })
 field_part t ty k None = None
 
--- part k of a type: an array's item, so many items behind its start, or a struct's field
+-- part k of a type: an array's item, so many items after its start, or a struct's field
 abbrev pub part_by : Tables → ℕ → ℕ → Option IrType → Option TypePart
 part_by t ty k (Some (Array count item)) = Some (record { ty = item; offset = counted_offset t ty (k * counted_size t item) })
 part_by t ty k (Some (Struct first count packed)) = field_part t ty k (slice_get (field_types t.fields first count) k)
@@ -109,7 +109,7 @@ part_by t ty k other = None
 abbrev pub part_of : Tables → ℕ → ℕ → Option TypePart
 part_of t ty k = part_by t ty k (type_at t ty)
 
--- the offsets of all fields of a type, where they count
+-- the offsets of all fields of a type, if they count
 abbrev pub AreOffsets : Tables → ℕ → List ℕ → Type 0
 AreOffsets t ty offsets = is_fitting t.types t.fields ty ≡ true → AreFieldOffsets t.types t.fields ty offsets
 

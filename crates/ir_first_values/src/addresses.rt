@@ -9,7 +9,7 @@ use crate::parts::TypePart;
 use ir_core::IrType;
 use ir_grammar::{SpelledConstant, TypedIndex};
 
-/// An address: so many bytes behind the start of a variable, by its number, or behind null, modulo 2^64.
+/// An address: so many bytes after the start of a variable, by its number, or after null, modulo 2^64.
 #[derive(Clone, Copy)]
 pub(crate) struct Address {
     pub variable: Option<u32>,
@@ -172,7 +172,7 @@ impl<'a> Initializers<'a> {
     }
 
     #[tactic(auto, unfolding(crate::specs::Addresses::address_of))]
-    /// The address that a constant spells, where so many brackets may stand around one another.
+    /// The address that a constant spells, with so many brackets within one another at most.
     pub(crate) fn address_of(&self, levels: u32, number: usize) -> Option<Address>
         requires { HasLayouts self.now.module.now }
         ensures { result ≡ address_of levels (tables_of self.now) number }

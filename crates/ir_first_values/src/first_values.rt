@@ -9,12 +9,9 @@ ghost use Rattle.ir_first_values.specs.Pieces.{AreNumbered};
 
 use crate::Initializers;
 use crate::no_value::NoValue;
-use hw_base::OutOfMemory;
+use hw_base::{MOST_NESTING, OutOfMemory};
 use ir_core::PartList;
 use std::alloc::Global;
-
-/// How many brackets may stand around one another.
-const NESTING_LIMIT: u32 = 64;
 
 /// The first value of a variable. `fits` says that its initializer breaks no type rule, and then `init` has its pieces in
 /// order of the text; else `init` is empty.
@@ -31,7 +28,7 @@ fn text_has_bytes(text: &[u8])
 
 impl<'a> Initializers<'a> {
     /// The first value of a variable of a type, by the number of the type in the module and that of its initializer among
-    /// the spelled constants. Bytes of no piece are 0. The only error is want of memory. The time is in proportion to the
+    /// the spelled constants. Bytes of no piece are 0. The only error is that memory ran out. The time is in proportion to the
     /// initializer, and to the fields of the structs into which its `getelementptr`s step.
     pub fn first_value(
         &self,
@@ -45,7 +42,7 @@ impl<'a> Initializers<'a> {
     {
         text_has_bytes(self.source);
         let mut init = PartList::new(alloc);
-        match self.put_value(alloc, &mut init, NESTING_LIMIT, 0, ty, constant) {
+        match self.put_value(alloc, &mut init, MOST_NESTING, 0, ty, constant) {
             Ok(()) => Ok(FirstValue { fits: true, init }),
             Err(NoValue::RuleBroken) => Ok(FirstValue {
                 fits: false,

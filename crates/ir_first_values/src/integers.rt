@@ -53,7 +53,7 @@ fn negated(width: u32, magnitude: u128) -> u128
     }
 }
 
-/// The value of an integer of a width, or none where it is out of range.
+/// The value of an integer of a width, or none if it is out of range.
 pub fn integer_in(width: u32, integer: SpelledInteger) -> Option<u128>
     ensures value { result ≡ integer_in width integer }
     ensures below { IfSome result (λ n. n < 2 ^ width) }
@@ -89,7 +89,7 @@ fn extended(width: u32, n: u128) -> u64
     }
 }
 
-/// An integer of a type in 64 bits, or none where the type is no integer type or the integer is out of range for it.
+/// An integer of a type in 64 bits, or none if the type is no integer type or the integer is out of range for it.
 pub fn index_by(ty: Option<IrType>, integer: SpelledInteger) -> Option<u64>
     ensures { result ≡ index_by ty integer }
 {
@@ -102,7 +102,7 @@ pub fn index_by(ty: Option<IrType>, integer: SpelledInteger) -> Option<u64>
     }
 }
 
-/// An integer in 32 bits, or none where it is out of range for them.
+/// An integer in 32 bits, or none if it is out of range for them.
 fn in_32_bits(integer: SpelledInteger) -> Option<u32>
     ensures { result ≡ integer_in 32 integer }
 {
@@ -112,7 +112,7 @@ fn in_32_bits(integer: SpelledInteger) -> Option<u32>
     }
 }
 
-/// An integer of the type `i32`, or none where it is another type or the integer is out of range for it.
+/// An integer of the type `i32`, or none if it is another type or the integer is out of range for it.
 pub fn i32_by(ty: Option<IrType>, integer: SpelledInteger) -> Option<u32>
     ensures { result ≡ i32_by ty integer }
 {

@@ -1,5 +1,5 @@
 //! The first values of global variables: an initializer as it is spelled is made into pieces of bytes, and found to break a
-//! type rule where it isn't a value of the variable's type. Its main call is `Initializers::first_value`; the layer above
+//! type rule if it isn't a value of the variable's type. Its main call is `Initializers::first_value`; the layer above
 //! relies on it that the pieces are exactly those that `specs/FirstValues.antt` says, in order of the text.
 #![tactic(auto)]
 

@@ -12,7 +12,7 @@ use std::alloc::Global;
 /// 2^40 bytes: the size of a type above which a module is refused.
 const GREATEST_SIZE: u64 = 0x100_0000_0000;
 
-/// A part of a type: the number of its own type, and how many bytes behind the start it begins.
+/// A part of a type: the number of its own type, and how many bytes after the start it begins.
 #[derive(Clone, Copy)]
 pub(crate) struct TypePart {
     pub ty: u32,
@@ -46,7 +46,7 @@ pub(crate) fn is_struct_of(packed: bool, count: usize, ty: Option<IrType>) -> bo
 }
 
 impl<'a> Initializers<'a> {
-    /// An offset in a type, 0 where the type's size or the offset is above 2^40.
+    /// An offset in a type, 0 if the type's size or the offset is above 2^40.
     fn counted_offset(&self, ty: u32, offset: u64) -> u64
         requires { HasLayouts self.now.module.now }
         ensures { result ≡ counted_offset (tables_of self.now) ty offset }

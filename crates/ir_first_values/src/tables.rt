@@ -17,7 +17,7 @@ pub struct Initializers<'a> {
     pub source: &'a [u8],
     /// For each spelled type the number of the module's type that it stands for.
     pub numbers: &'a [u32],
-    /// For each type of the module its class. Two types that have a size are one type exactly where these are equal.
+    /// For each type of the module its class. Two types that have a size are one type exactly if these are equal.
     pub classes: &'a [u64],
     /// For each spelled constant that is the name of a global variable the variable's number.
     pub variables: &'a [Option<u32>],
@@ -159,7 +159,7 @@ impl<'a> Initializers<'a> {
         self.module.fits(ty)
     }
 
-    /// The alloc size of a type in bytes, 0 where it is above 2^40.
+    /// The alloc size of a type in bytes, 0 if it is above 2^40.
     pub(crate) fn counted_size(&self, ty: u32) -> u64
         requires { HasLayouts self.now.module.now }
         ensures { result ≡ counted_size (tables_of self.now) ty }

@@ -17,7 +17,7 @@ use ir_grammar::{SpelledConstant, SpelledInteger, TypedConstant};
 use ir_text::string_bytes;
 use std::alloc::Global;
 
-/// Puts one piece behind the others.
+/// Puts one piece after the others.
 fn put(parts: &mut PartList, at: u64, size: u32, value: Operand) -> Result<(), NoValue>
     ensures { Puts result parts.old parts.new (Some (piece at size value)) }
 {
@@ -303,7 +303,7 @@ impl<'a> Initializers<'a> {
         }
     }
 
-    /// Puts a constant, whose elements stand inside its brackets, as a value of a type.
+    /// Puts a constant, whose elements are inside its brackets, as a value of a type.
     #[cycle(values)]
     fn put_nested(
         &self,
@@ -339,7 +339,7 @@ impl<'a> Initializers<'a> {
         }
     }
 
-    /// Puts a constant as a value of a type, from byte `at` on, where so many brackets may stand around one another. After an
+    /// Puts a constant as a value of a type, from byte `at` on, with so many brackets within one another at most. After an
     /// `Err` the pieces mean nothing.
     #[cycle(values)]
     pub(crate) fn put_value(

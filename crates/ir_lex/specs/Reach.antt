@@ -1,4 +1,4 @@
--- How far a token of each kind reaches from the front of a text: the length in bytes of the longest one, 0 where there
+-- How far a token of each kind reaches from the front of a text: the length in bytes of the longest one, 0 if there
 -- is none. `names` is always the number of name bytes at the front.
 use Rattle.std.specs.Prelude.{ℕ, List, [], length, drop, get_or, Bool, not, ◌&&◌, ◌+◌, ◌==◌, nat_lt, nat_eq, max, fold, if◌then◌else◌, codes}
 use Rattle.std.specs.List.{prefix_len, starts_with}
@@ -9,15 +9,15 @@ use Rattle.ir_core.specs.declared.token.TokenKind.TheVariants.{Word, Label, Inte
 use Rattle.ir_lex.specs.declared.reach.Found.{Found}
 use Rattle.ir_lex.specs.declared.reach.TheConstants.{KINDS}
 
--- what follows a first byte, nothing where the first byte is another
+-- what follows a first byte, nothing if the first byte is another
 abbrev pub behind : ℕ → List ℕ → List ℕ
 behind b text = if get_or text 0 0 == b then drop 1 text else []
 
--- one byte more, where there is something
+-- one byte more, if there is something
 abbrev pub grown : ℕ → ℕ
 grown n = if nat_lt 0 n then n + 1 else 0
 
--- the same with the colon at once behind it
+-- the same with the colon at once after it
 abbrev pub with_colon : ℕ → List ℕ → ℕ
 with_colon n text = if nat_lt 0 n && (get_or text n 0 == colon) then n + 1 else 0
 
@@ -33,11 +33,11 @@ closed n rest = if nat_lt n (length rest) then n + 2 else 0
 unfoldable pub quoted_reach : List ℕ → ℕ
 quoted_reach text = closed (prefix_len is_inside_string (behind quote text)) (behind quote text)
 
--- the name at the front, behind `%`, `@` or `!`
+-- the name at the front, after `%`, `@` or `!`
 unfoldable pub named_reach : List ℕ → ℕ
 named_reach text = if begins_name (get_or text 0 0) then prefix_len is_name_byte text else 0
 
--- what stands behind `%` and `@`
+-- what follows `%` and `@`
 unfoldable pub reference_reach : List ℕ → ℕ
 reference_reach text = max (digits_reach text) (max (quoted_reach text) (named_reach text))
 
@@ -91,7 +91,7 @@ reach Mark names text = mark_reach text
 unfoldable pub longer : ℕ → List ℕ → Found → TokenKind → Found
 longer names text best kind = if nat_lt best.len (reach kind names text) then record { kind = kind; len = reach kind names text } else best
 
--- the longest among tokens of these kinds, of length 0 where there is none
+-- the longest among tokens of these kinds, of length 0 if there is none
 abbrev pub longest_among : List TokenKind → ℕ → List ℕ → Found
 longest_among kinds names text = fold (longer names text) (record { kind = Word; len = 0 }) kinds
 

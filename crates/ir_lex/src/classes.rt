@@ -43,7 +43,7 @@ fn is_name_byte(b: u8) -> bool
         || b == b'-'
 }
 
-/// What stands between a float's digits and the rest.
+/// What is between a float's digits and the rest.
 pub(crate) fn is_point(b: u8) -> bool
     ensures { result ≡ is_point b }
 {

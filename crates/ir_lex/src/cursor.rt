@@ -1,5 +1,6 @@
 ghost use Rattle.std.specs.Prelude.{◌≡◌, ◌≤◌, ◌<◌, ◌+◌, ◌^◌, false, length, take, drop, nat_lt, MatchOption};
 ghost use Rattle.std.specs.List.{prefix_len};
+ghost use Rattle.hw_base.specs.declared.numbers.TheConstants.{MOST_TEXT};
 ghost use Rattle.ir_core.specs.Spelling.{is_name_byte};
 ghost use Rattle.ir_core.specs.Tokenisation.{place_after, IsToken};
 ghost use Rattle.ir_lex.specs.Gaps.{gap_length};
@@ -11,14 +12,14 @@ use crate::gaps::{gap_len, place_behind};
 use ir_core::{Place, Token};
 
 /// How far a text is read: the offset of the next byte, its place, and the end of the name bytes that were counted last.
-/// Where that end lies behind the next byte, no name bytes are counted again, so each byte is looked at a few times only.
+/// While that end is after the next byte, no name bytes are counted again, so each byte is looked at a few times only.
 #[derive(Drop)]
 pub(crate) struct Cursor<'a> {
     text: &'a [u8],
     at: usize,
     place: Place,
     names_end: usize,
-    ghost short: { length text.now ≤ 2 ^ 24 },
+    ghost short: { length text.now ≤ MOST_TEXT },
     ghost inside: { at ≤ length text.now },
     ghost line: { place.line ≡ (place_after (take at text.now)).line },
     ghost column: { place.column ≡ (place_after (take at text.now)).column },
@@ -28,7 +29,7 @@ pub(crate) struct Cursor<'a> {
 impl<'a> Cursor<'a> {
     /// At the first byte of the text.
     pub(crate) fn new(text: &'a [u8]) -> Cursor<'a>
-        requires { length text.now ≤ 2 ^ 24 }
+        requires { length text.now ≤ MOST_TEXT }
         ensures text { result.text.now ≡ text.now }
         ensures at { result.at ≡ 0 }
     {
@@ -89,7 +90,7 @@ impl<'a> Cursor<'a> {
         self.advance(n);
     }
 
-    /// Passes over the token that comes next, and answers it; none where no token begins here, and then nothing is passed.
+    /// Passes over the token that comes next, and returns it; none if no token begins here, and then nothing is passed.
     pub(crate) fn take_token(&mut self) -> Option<Token>
         ensures text { self.new.text.now ≡ self.old.text.now }
         ensures token { MatchOption result (HasNoToken self.old.text.now self.old.at self.new.at) (IsTaken self.old.text.now self.old.at self.new.at) }

@@ -43,7 +43,7 @@ fn is_in_range(bytes: &[u8]) -> bool
     }
 }
 
-/// The token at the front of the text: the longest of any kind, none where there is none or where it is an integer out of
+/// The token at the front of the text: the longest of any kind, none if there is none or if it is an integer out of
 /// range. `names` is the number of name bytes at the front.
 pub(crate) fn token_at_front(names: usize, bytes: &[u8]) -> Option<Found>
     requires short { length bytes.now < 2 ^ 32 }

@@ -11,7 +11,7 @@ fn is_separator(b: u8) -> bool
     matches!(b, b' ' | b'\t' | b'\r' | b'\n' | b';')
 }
 
-/// Whether the byte behind this one is in a comment, from whether this one is.
+/// Whether the byte after this one is in a comment, from whether this one is.
 fn goes_on(comment: bool, b: u8) -> bool
     ensures { result ≡ goes_on comment b }
 {
@@ -53,7 +53,7 @@ fn next_place(place: Place, b: u8) -> Place
     }
 }
 
-/// The place behind these bytes, from that of the first.
+/// The place after these bytes, from that of the first.
 #[tactic(auto, using(std::proofs::lemmas::List::Sums::fold_more))]
 pub(crate) fn place_behind(start: Place, bytes: &[u8]) -> Place
     requires line { start.line + length bytes.now < 2 ^ 32 }

@@ -1,4 +1,5 @@
 ghost use Rattle.std.specs.Prelude.{◌≡◌, ◌≤◌, length, IfOk};
+ghost use Rattle.hw_base.specs.declared.numbers.TheConstants.{MOST_TEXT};
 ghost use Rattle.ir_core.specs.Tokenisation.{place_after};
 ghost use Rattle.ir_core.specs.declared.faults.Fault.TheVariants.{BadToken};
 ghost use Rattle.ir_lex.specs.Lexes.{Lexes};
@@ -22,7 +23,7 @@ fn bad_token(place: Place) -> Refusal
 
 /// The tokens of a text, or its first bad token.
 fn tokens_of<'a>(alloc: Global, text: &'a [u8]) -> Result<Tokens<'a>, ReadError>
-    requires { length text.now ≤ 16777216 }
+    requires { length text.now ≤ MOST_TEXT }
     ensures { Lexes text.now result }
 {
     let mut cursor = Cursor::new(text);
@@ -40,21 +41,21 @@ fn tokens_of<'a>(alloc: Global, text: &'a [u8]) -> Result<Tokens<'a>, ReadError>
     Ok(tokens)
 }
 
-/// The tokens of a text of at most 16 MiB, in order, beside the text. The spellings are those of the LLVM Language
+/// The tokens of a text of at most `MOST_TEXT` bytes, in order, beside the text. The spellings are those of the LLVM Language
 /// Reference; the kinds that they are sorted into are this project's choice. The error is `Refused` with `BadToken` at
-/// the first byte at which no token can be read, exactly where the text isn't a row of tokens: for a string without an
-/// end its first byte, for an integer outside -2^127 to 2^128 - 1 its first byte. Else it is want of memory.
+/// the first byte at which no token can be read, exactly if the text isn't a row of tokens: for a string without an
+/// end its first byte, for an integer outside -2^127 to 2^128 - 1 its first byte. Else memory ran out.
 pub fn lex<'a>(alloc: Global, text: &'a [u8]) -> Result<Tokens<'a>, ReadError>
-    requires { length text.now ≤ 16777216 }
+    requires { length text.now ≤ MOST_TEXT }
     ensures lexes { Lexes text.now result }
     ensures few { IfOk result (λ read. length read.tokens ≤ length text.now) }
 {
     tokens_of(alloc, text)
 }
 
-/// The place behind the last byte of a text of at most 16 MiB.
+/// The place after the last byte of a text of at most `MOST_TEXT` bytes.
 pub fn end_of(text: &[u8]) -> Place
-    requires { length text.now ≤ 16777216 }
+    requires { length text.now ≤ MOST_TEXT }
     ensures { result ≡ place_after text.now }
 {
     place_behind(Place { line: 1, column: 1 }, text)

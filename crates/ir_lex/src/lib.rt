@@ -1,6 +1,6 @@
 //! The first phase of reading: a text becomes its tokens with their places, or is refused at the first byte at which no
-//! token can be read. The main call is `lex`. The readers above rely on it: what it answers is the one tokenisation of
-//! the text, and a refusal comes exactly where there is none.
+//! token can be read. The main call is `lex`. The readers above rely on it: what it returns is the one tokenisation of
+//! the text, and a refusal comes exactly if there is none.
 #![tactic(auto)]
 
 mod classes;

@@ -6,7 +6,7 @@ use crate::classes::{
 };
 use ir_core::TokenKind;
 
-/// A token at the front of a text: its kind and its length in bytes, 0 where there is none.
+/// A token at the front of a text: its kind and its length in bytes, 0 if there is none.
 #[derive(Clone, Copy)]
 pub(crate) struct Found {
     pub(crate) kind: TokenKind,
@@ -31,7 +31,7 @@ pub(crate) const KINDS: [TokenKind; 14] = [
     TokenKind::Mark,
 ];
 
-/// What follows the first byte where it is this one, else nothing.
+/// What follows the first byte if it is this one, else nothing.
 fn behind(first: u8, bytes: &[u8]) -> &[u8]
     ensures value { result.now ≡ behind first bytes.now }
     ensures bound { length result.now ≤ length bytes.now }
@@ -43,7 +43,7 @@ fn behind(first: u8, bytes: &[u8]) -> &[u8]
     }
 }
 
-/// One more, where there is something.
+/// One more, if there is something.
 fn grown(n: usize) -> usize
     requires { n < 2 ^ 63 }
     ensures { result ≡ grown n }
@@ -51,7 +51,7 @@ fn grown(n: usize) -> usize
     if n > 0 { n + 1 } else { 0 }
 }
 
-/// One more, where there is something and a colon at once behind it.
+/// One more, if there is something and a colon at once after it.
 fn with_colon(n: usize, bytes: &[u8]) -> usize
     requires { n < 2 ^ 63 }
     ensures { result ≡ with_colon n bytes.now }
@@ -71,7 +71,7 @@ fn digits_reach(bytes: &[u8]) -> usize
     front_len(ByteClass::Digit, bytes)
 }
 
-/// The length of the string at the front with its quotes, 0 where there is none or it has no end.
+/// The length of the string at the front with its quotes, 0 if there is none or it has no end.
 #[tactic(auto, unfolding(crate::specs::Reach::quoted_reach))]
 fn quoted_reach(bytes: &[u8]) -> usize
     ensures value { result ≡ quoted_reach bytes.now }
@@ -182,7 +182,7 @@ fn mark_reach(bytes: &[u8]) -> usize
     }
 }
 
-/// How many bytes the longest token of this kind at the front has, 0 where there is none. `names` is the number of name
+/// How many bytes the longest token of this kind at the front has, 0 if there is none. `names` is the number of name
 /// bytes at the front.
 fn reach(kind: TokenKind, names: usize, bytes: &[u8]) -> usize
     requires short { length bytes.now < 2 ^ 32 }

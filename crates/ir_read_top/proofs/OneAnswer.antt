@@ -1,5 +1,6 @@
 -- A text has one answer: it is accepted, or refused for one fault.
 use Rattle.std.proofs.Common.{◌≡◌, ℕ, ◌<◌, ◌≤◌, List, [], length, Some, None, Ok, Err, Option, Result, refl, sym, ◌∙◌, ap, subst, arith, append-nil}
+use Rattle.hw_base.specs.declared.numbers.TheConstants.{MOST_TEXT}
 use Rattle.ir_core.specs.declared.token.Token.{Token}
 use Rattle.ir_core.specs.declared.refusals.Place.{Place}
 use Rattle.ir_core.specs.declared.refusals.Refusal.{Refusal}
@@ -19,7 +20,7 @@ use Rattle.ir_read_items.proofs.Spelled.{module_spelled}
 use Rattle.ir_names.specs.declared.fault.NameFault.{NameFault}
 use Rattle.ir_names.specs.First.{first_fault}
 use Rattle.ir_names.specs.Faults.{name_faults}
-use Rattle.ir_read_top.specs.Texts.{text_limit, sentence, refusal_at, place_with, IsAccepted, IsFaultOf, too_long, bad_token, flawed, misnamed}
+use Rattle.ir_read_top.specs.Texts.{sentence, refusal_at, place_with, IsAccepted, IsFaultOf, too_long, bad_token, flawed, misnamed}
 
 -- a text that is a module is read so
 read_whole : (text : List ℕ) (tokens : List Token) (store : Store) → IsModule nesting_limit (sentence text tokens) store → spelled (sentence text tokens) ≡ Ok store
@@ -70,7 +71,7 @@ one_misnaming text s t a b f g cut cut' d d' h h' =
     let same : f ≡ g = cc in
     ap (λ (v : NameFault). refusal_at v.fault v.at.place) same
 
-too_much : (n : ℕ) → n ≤ text_limit → text_limit < n → ⊥
+too_much : (n : ℕ) → n ≤ MOST_TEXT → MOST_TEXT < n → ⊥
 too_much n short long = omega arith
 
 -- a text that is accepted has no fault

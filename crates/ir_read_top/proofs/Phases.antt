@@ -1,5 +1,6 @@
 -- From what each phase answers to what a text is read into.
 use Rattle.std.proofs.Common.{◌≡◌, ℕ, ◌+◌, ◌*◌, ◌^◌, ◌<◌, ◌≤◌, List, [], ◌∷◌, length, sym, subst, refl, arith, length-append, Err}
+use Rattle.hw_base.specs.declared.numbers.TheConstants.{MOST_TEXT}
 use Rattle.ir_core.specs.declared.token.Token.{Token}
 use Rattle.ir_core.specs.declared.refusals.Place.{Place}
 use Rattle.ir_core.specs.declared.refusals.Refusal.{Refusal}
@@ -18,7 +19,7 @@ use Rattle.ir_read_items.specs.ItemLaws.{IsModule}
 use Rattle.ir_names.specs.declared.fault.NamesError.{NamesError}
 use Rattle.ir_names.specs.declared.fault.NamesError.TheVariants as names
 use Rattle.ir_names.specs.Meanings.{Resolves}
-use Rattle.ir_read_top.specs.Texts.{text_limit, sentence, refusal_at, names_error, flaw_error, IsFaultOf, bad_token, flawed, misnamed, ReadsText}
+use Rattle.ir_read_top.specs.Texts.{sentence, refusal_at, names_error, flaw_error, IsFaultOf, bad_token, flawed, misnamed, ReadsText}
 
 length-terminals : (source : List ℕ) (ts : List Token) → length (terminals_of source ts) ≡ length ts
 length-terminals source [] = refl
@@ -31,25 +32,25 @@ length-text source ts place =
     omega (arith, length-append (terminals_of source ts) (end_of_text place ∷ []))
 
 -- what was read of a text is less than 2^32 things
-pub small_enough : (size n : ℕ) → size ≤ 8 * n → n ≤ text_limit + 1 → size < 2 ^ 32
+pub small_enough : (size n : ℕ) → size ≤ 8 * n → n ≤ MOST_TEXT + 1 → size < 2 ^ 32
 small_enough size n h le = omega arith
 
 refusal_is : (r : Refusal) → r.fault ≡ BadToken → refusal_at BadToken (record { line = r.line; column = r.column }) ≡ r
 refusal_is r p i = record { fault = sym p i; line = r.line; column = r.column }
 
 -- the lexer's refusal is that of the text
-pub bad_text : (text : List ℕ) (error : ReadError) → length text ≤ text_limit → Lexes text (Err error) → ReadsText text (Err error)
+pub bad_text : (text : List ℕ) (error : ReadError) → length text ≤ MOST_TEXT → Lexes text (Err error) → ReadsText text (Err error)
 bad_text text OutOfMemory short h = tt
 bad_text text (Refused r) short h = subst (IsFaultOf text) (refusal_is r h.0) (bad_token (record { line = r.line; column = r.column }) short h.1)
 
 -- the fault of a name is that of the text
-pub misnamed_text : (text : List ℕ) (tokens : List Token) (store : Store) (error : NamesError) → length text ≤ text_limit → IsTokenisation text tokens → IsModule nesting_limit (sentence text tokens) store
+pub misnamed_text : (text : List ℕ) (tokens : List Token) (store : Store) (error : NamesError) → length text ≤ MOST_TEXT → IsTokenisation text tokens → IsModule nesting_limit (sentence text tokens) store
     → Resolves text store.items store (Err error) → ReadsText text (Err (names_error error))
 misnamed_text text tokens store names.OutOfMemory short cut derived h = tt
 misnamed_text text tokens store (names.Fault f) short cut derived h = misnamed tokens store f short cut derived h
 
 -- the flaw of the tokens is that of the text
-pub flawed_text : (text : List ℕ) (tokens : List Token) (failure : Failure) → length text ≤ text_limit → IsTokenisation text tokens
+pub flawed_text : (text : List ℕ) (tokens : List Token) (failure : Failure) → length text ≤ MOST_TEXT → IsTokenisation text tokens
     → ReadsItems (sentence text tokens) (Err failure) → ReadsText text (Err (flaw_error (place_after text) (sentence text tokens) failure))
 flawed_text text tokens failures.OutOfMemory short cut h = tt
 flawed_text text tokens (failures.Flawed flaw) short cut h = flawed tokens flaw.fault flaw.left short cut h

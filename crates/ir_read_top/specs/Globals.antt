@@ -15,7 +15,7 @@ use Rattle.ir_type_numbers.specs.SameTypes.{IsSame, HasLayout}
 use Rattle.ir_first_values.specs.Tables.{Tables}
 use Rattle.ir_first_values.specs.FirstValues.{first_value}
 
--- these are classes of the types: two types that don't hold themselves are one exactly where their classes are equal
+-- these are classes of the types: two types that don't hold themselves are one exactly if their classes are equal
 pub record AreClasses (types : List IrType) (fields : List ℕ) (named : List Bool) (classes : List ℕ) : Type 0 where
   pub each : length classes ≡ length types
   pub same : (a b : ℕ) → HasLayout types fields a → HasLayout types fields b → (number_at classes a ≡ number_at classes b) ↔ IsSame types fields named a b

@@ -67,7 +67,7 @@ abbrev pub set_pair : List IrType → ℕ → Option ℕ → List IrType
 set_pair types n None = types
 set_pair types n (Some width) = slice_set types n (Pair width)
 
--- the result of a declared intrinsic with overflow, where it is spelled as such a struct, is a pair
+-- the result of a declared intrinsic with overflow, if it is spelled as such a struct, is a pair
 abbrev pub with_pair : List SpelledType → List ℕ → List IrType → SpelledItem → Option Lib → List IrType
 with_pair spelled fields types (items.Declare name ty first count) (Some (Overflow op width)) = set_pair types ty (pair_of types fields (slice_get spelled ty))
 with_pair spelled fields types item lib = types

@@ -2,6 +2,7 @@
 -- length, its tokens, the grammar, names. The first phase with a fault decides. This project's choice.
 use Rattle.std.specs.Prelude.{ℕ, ◌-◌, ◌<◌, ◌≤◌, ◌≡◌, List, [], length, slice_get, Option, Some, None, Result, Ok, Err}
 use Rattle.std.specs.Option.{option_map_or}
+use Rattle.hw_base.specs.declared.numbers.TheConstants.{MOST_TEXT}
 use Rattle.ir_core.specs.declared.token.Token.{Token}
 use Rattle.ir_core.specs.declared.refusals.Place.{Place}
 use Rattle.ir_core.specs.declared.refusals.Refusal.{Refusal}
@@ -33,11 +34,7 @@ use Rattle.ir_type_numbers.specs.Numbering.{stands_for, module_types, module_fie
 use Rattle.ir_read_top.specs.Module.{AreLibsOf, named_marks, with_pairs, declares_of}
 use Rattle.ir_read_top.specs.Globals.{AreClasses, tables, globals_of}
 
--- how many bytes a text may have: 16 MiB
-abbrev pub text_limit : ℕ
-text_limit = 16777216
-
--- a text's tokens as the grammar sees them, with its end behind them
+-- a text's tokens as the grammar sees them, with its end after them
 abbrev pub sentence : List ℕ → List Token → List Terminal
 sentence text tokens = text_of text tokens (place_after text)
 
@@ -82,7 +79,7 @@ pub record IsModuleOf (text : List ℕ) (tokens : List Token) (store : Store) (m
 
 -- the text is accepted, and this is its module
 pub record IsAccepted (text : List ℕ) (m : Module) : Type 0 where
-  pub short : length text ≤ text_limit
+  pub short : length text ≤ MOST_TEXT
   pub tokens : List Token
   pub cut : IsTokenisation text tokens
   pub store : Store
@@ -93,19 +90,19 @@ pub record IsAccepted (text : List ℕ) (m : Module) : Type 0 where
 -- the text is refused so
 pub data IsFaultOf (text : List ℕ) : Refusal → Type 0 where
   -- it is too long
-  too_long : text_limit < length text → IsFaultOf text (refusal_at (TooLarge Text) (record { line = 1; column = 1 }))
+  too_long : MOST_TEXT < length text → IsFaultOf text (refusal_at (TooLarge Text) (record { line = 1; column = 1 }))
   -- no token can be read here
-  bad_token : (place : Place) → length text ≤ text_limit → IsBadTokenAt text place → IsFaultOf text (refusal_at BadToken place)
+  bad_token : (place : Place) → length text ≤ MOST_TEXT → IsBadTokenAt text place → IsFaultOf text (refusal_at BadToken place)
   -- no module goes on with the token here
-  flawed : (tokens : List Token) (fault : Fault) (left : ℕ) → length text ≤ text_limit → IsTokenisation text tokens
+  flawed : (tokens : List Token) (fault : Fault) (left : ℕ) → length text ≤ MOST_TEXT → IsTokenisation text tokens
       → spelled (sentence text tokens) ≡ Err (record { fault = fault; left = left })
       → IsFaultOf text (refusal_at fault (place_with (place_after text) (sentence text tokens) left))
   -- the first fault of a name is here
-  misnamed : (tokens : List Token) (store : Store) (f : NameFault) → length text ≤ text_limit → IsTokenisation text tokens
+  misnamed : (tokens : List Token) (store : Store) (f : NameFault) → length text ≤ MOST_TEXT → IsTokenisation text tokens
       → IsModule nesting_limit (sentence text tokens) store → first_fault (name_faults text store.items store) ≡ Some f
       → IsFaultOf text (refusal_at f.fault f.at.place)
 
--- what reading a text answers: its module, or its fault, or want of memory
+-- what reading a text returns: its module, or its fault, unless memory ran out
 abbrev pub ReadsText : List ℕ → Result Module ReadError → Type 0
 ReadsText text (Ok m) = IsAccepted text m
 ReadsText text (Err (Refused refusal)) = IsFaultOf text refusal

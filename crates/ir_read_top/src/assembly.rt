@@ -124,7 +124,7 @@ fn assembled(
     with_variables(alloc, tokens, found, references, &numbers, bare)
 }
 
-/// The classes of the types of a module: two that don't hold themselves are one exactly where these are equal.
+/// The classes of the types of a module: two that don't hold themselves are one exactly if these are equal.
 fn classes_of(alloc: Global, bare: &Module, found: &Spellings) -> Result<Vec<u64>, OutOfMemory>
     ensures { IfOk result (λ classes. AreClasses bare.now.types bare.now.fields (named_marks (store_of found.now).items (store_of found.now).types) classes.items) }
 {

@@ -1,6 +1,6 @@
 //! A text of LLVM IR read into a module, or the first fault of a text that isn't accepted. Its main call is `read`, which
-//! goes through the phases of a text: its length, its tokens, the grammar, names. The layers above check the module's types
-//! and flow, and rely on it that the module is the one that the text spells.
+//! goes through the phases of a text: its length, its tokens, the grammar, names. What it promises is
+//! that the module is the one that the text spells. Nothing checks the module's types and flow yet.
 #![tactic(auto)]
 
 mod assembly;

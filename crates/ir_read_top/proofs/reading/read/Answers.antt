@@ -6,8 +6,8 @@ use Rattle.ir_read_top.proofs.Phases.{bad_text}
 use Rattle.ir_read_top.proofs.ResolvedModule.{resolved_answer}
 use Rattle.ir_read_top.proofs.reading.read.Goals as goal
 
-pub returns-then-text-gt-TEXT_LIMIT-clause-text : goal.returns-then-text-gt-TEXT_LIMIT-clause-text
-returns-then-text-gt-TEXT_LIMIT-clause-text c = subst (IsFaultOf c.args.text.now) (sym c.refusal_at.ensures) (too_long c.if-text-gt-TEXT_LIMIT.true)
+pub returns-then-text-gt-MOST_TEXT-clause-text : goal.returns-then-text-gt-MOST_TEXT-clause-text
+returns-then-text-gt-MOST_TEXT-clause-text c = subst (IsFaultOf c.args.text.now) (sym c.refusal_at.ensures) (too_long c.if-text-gt-MOST_TEXT.true)
 
 pub returns-in-Ok-clause-resolved : goal.returns-in-Ok-clause-resolved
 returns-in-Ok-clause-resolved c =
@@ -16,4 +16,4 @@ returns-in-Ok-clause-resolved c =
     (subst (λ text. ReadsText text c.read_tokens.result) c.in-Ok.ensures.lexes.0 c.read_tokens.ensures)
 
 pub returns-in-Err-clause-text : goal.returns-in-Err-clause-text
-returns-in-Err-clause-text c = bad_text c.args.text.now c.in-Err.error c.if-text-gt-TEXT_LIMIT.false c.in-Err.ensures.lexes
+returns-in-Err-clause-text c = bad_text c.args.text.now c.in-Err.error c.if-text-gt-MOST_TEXT.false c.in-Err.ensures.lexes

@@ -74,7 +74,7 @@ pub(crate) fn is_comma(tokens: &Tokens, token: &Token) -> bool
     is_the(tokens, token, b',')
 }
 
-/// How many brackets are open behind the token, from how many are before it.
+/// How many brackets are open after the token, from how many are before it.
 pub(crate) fn depth_behind(tokens: &Tokens, token: &Token, depth: u64) -> u64
     requires { depth + 1 < 2 ^ 64 }
     ensures value { result ≡ depth_behind (lexeme tokens.now.source token.now) depth }
