@@ -16,8 +16,9 @@ pub use accesses::{Access, Kind, Reason};
 pub use byte_list::ByteList;
 pub use endings::{Full, Input, Space, Status, Trap};
 pub use numbers::{
-    GLOBALS_AT, HEAP_AT, MOST_FRAMES, MOST_GLOBALS, MOST_HEAP, MOST_NESTING, MOST_RING, MOST_SIZE, MOST_STEPS, MOST_TASKS,
-    MOST_TEXT, MOST_WORDS, MUTEX_SIZE, PAGE, STACK_LENGTH, STACKS_AT, TASK_NUMBER_SIZE,
+    GLOBALS_AT, HEAP_AT, MOST_FRAMES, MOST_GLOBALS, MOST_HEAP, MOST_NESTING, MOST_RING, MOST_SIZE,
+    MOST_STEPS, MOST_TASKS, MOST_TEXT, MOST_WORDS, MUTEX_SIZE, PAGE, STACK_LENGTH, STACKS_AT,
+    TASK_NUMBER_SIZE,
 };
 pub use operators::{BinOp, BitOp, CastOp, OverOp, Pred, RmwOp};
 pub use out_of_memory::OutOfMemory;
