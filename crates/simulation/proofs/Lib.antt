@@ -1,11 +1,14 @@
 pub mod ArithmeticFollows
 pub mod BranchFollows
 pub mod CodeAt
+pub mod ComparisonFollows
 pub mod Images
+pub mod ObjectPlaces
 pub mod OperandImages
 pub mod OperandsThere
 pub mod PlacesTold
 pub mod PlainSteps
+pub mod PointerComparisons
 pub mod PointerFollows
 pub mod RegisterImages
 pub mod RegisterSteps

@@ -35,11 +35,11 @@ use Rattle.simulation.specs.Relation.{SeenLike}
 -- ---- numbers of pointers
 
 -- the number of a pointer to the start, with its tag
-abbrev start_in : Option Placed → ℕ
+abbrev pub start_in : Option Placed → ℕ
 start_in None = 0
 start_in (Some placed) = placed.tag * 2 ^ 56 + placed.at
 
-abbrev start_of : List StoryBirth → Base → ℕ
+abbrev pub start_of : List StoryBirth → Base → ℕ
 start_of births Null = 0
 start_of births (Object o) = start_in (get_placed births o)
 

@@ -34,7 +34,7 @@ use Rattle.mi_code.specs.Widths.{width_of_type}
 use Rattle.ir_core.specs.Blocks.{block_holding}
 use Rattle.tag_story.specs.ToldRun.{ToldSeen, source_seen}
 use Rattle.simulation.specs.Relation.{IsSetting, SeenRelated}
-use Rattle.simulation.specs.RegisterSteps.{is_integer_type, is_register_step, IsAt, IsFollowed}
+use Rattle.simulation.specs.RegisterSteps.{is_register_step, IsAt, IsFollowed}
 use Rattle.ir_machine.proofs.CodeAt.{place-next}
 use Rattle.simulation.proofs.CodeAt.{instruction-get, at-frame}
 use Rattle.simulation.proofs.PlainSteps.{FollowsIn, IsBeforeNext, own_site, goes_on-follows}
@@ -42,6 +42,7 @@ use Rattle.simulation.proofs.Steps.{source-first}
 use Rattle.simulation.proofs.ArithmeticFollows.{IsOperandOf, binary-follows, icmp-follows, cast-follows, select-follows, freeze-follows, extract-follows}
 use Rattle.ir_core.specs.declared.operands.Case.{Case}
 use Rattle.simulation.proofs.BranchFollows.{br-follows, br_if-follows, switch-follows, unreachable-follows}
+use Rattle.simulation.proofs.PointerComparisons.{pointers-follow}
 use Rattle.simulation.proofs.PointerFollows.{gep-follows}
 use Rattle.simulation.proofs.OperandsThere.{operand-of, bit-of, resolved-at}
 
@@ -138,18 +139,19 @@ module _ (setting : MachineSetting) (given : Input) (t : ToldSeen) (m : MachineS
   unfolding nothing_step
   fence same resolved = by-step op.Fence _ same (refl, refl) (λ next before. goes_on-follows setting t m f related.like before)
 
-  icmp : (pred : Pred) (a b : Placed) → is_integer_type (type_of setting.program a.ty) ≡ true → Followed (op.Icmp pred a b)
-  icmp pred a b integer same resolved =
-      by-step (op.Icmp pred a b) _ same (refl, refl) (λ next before. by_type before (type_of setting.program a.ty) integer)
+  icmp : (pred : Pred) (a b : Placed) → Followed (op.Icmp pred a b)
+  unfolding icmp_step
+  icmp pred a b same resolved =
+      by-step (op.Icmp pred a b) _ same (refl, refl) (λ next before. by_type before (type_of setting.program a.ty))
     where
-      by_type : IsBeforeNext setting t m f → (type : IrType) → is_integer_type type ≡ true → FollowsIn setting t (icmp_step (source_seen t) inst.result pred type (source.value_of setting.program (source_seen t) a) (source.value_of setting.program (source_seen t) b)) (Rattle.ir_machine.specs.ArithmeticSteps.icmp_step m pred (width_of_type type) (result_register f inst.result) (operand_of a) (operand_of b))
-      by_type before (Int width) h = icmp-follows setting t m f related.like before inst.result pred width _ _ (operand_of a) (operand_of b) (operand a resolved.0) (operand b resolved.1)
-      by_type before Void h = absurd cc
-      by_type before Ptr h = absurd cc
-      by_type before (Array count item) h = absurd cc
-      by_type before (Struct first count packed) h = absurd cc
-      by_type before Opaque h = absurd cc
-      by_type before (Pair width) h = absurd cc
+      by_type : IsBeforeNext setting t m f → (type : IrType) → FollowsIn setting t (icmp_step (source_seen t) inst.result pred type (source.value_of setting.program (source_seen t) a) (source.value_of setting.program (source_seen t) b)) (Rattle.ir_machine.specs.ArithmeticSteps.icmp_step m pred (width_of_type type) (result_register f inst.result) (operand_of a) (operand_of b))
+      by_type before (Int width) = icmp-follows setting t m f related.like before inst.result pred width _ _ (operand_of a) (operand_of b) (operand a resolved.0) (operand b resolved.1)
+      by_type before Ptr = pointers-follow setting t m f is related.like before inst.result pred _ _ (operand_of a) (operand_of b) (operand a resolved.0) (operand b resolved.1)
+      by_type before Void = tt
+      by_type before (Array count item) = tt
+      by_type before (Struct first count packed) = tt
+      by_type before Opaque = tt
+      by_type before (Pair width) = tt
 
   gep : (ty : ℕ) (base : Placed) (indices : List Placed) → Followed (op.Gep ty base indices)
   gep ty base indices same resolved =
@@ -178,9 +180,9 @@ module _ (setting : MachineSetting) (given : Input) (t : ToldSeen) (m : MachineS
   unreachable same resolved = by-step op.Unreachable _ same (refl, refl) (λ next before. unreachable-follows setting t m f related.like)
 
   -- by the instruction
-  pub own : (o : Op) → is_register_step setting.program o ≡ true → Followed o
+  pub own : (o : Op) → is_register_step o ≡ true → Followed o
   own (op.Binary kind a b) h = binary kind a b
-  own (op.Icmp pred a b) h = icmp pred a b h
+  own (op.Icmp pred a b) h = icmp pred a b
   own (op.Cast kind a to) h = cast kind a to
   own (op.Select cond a b) h = select cond a b
   own (op.Freeze a) h = freeze a
@@ -202,7 +204,7 @@ module _ (setting : MachineSetting) (given : Input) (t : ToldSeen) (m : MachineS
   own op.Unreachable h = unreachable
 
 -- the machine follows each step of a register step
-pub register_step-followed : (setting : MachineSetting) (t : ToldSeen) (m : MachineSeen) (f : Function) (inst : Inst) → IsSetting setting → IsAt setting.program t f inst → is_register_step setting.program inst.op ≡ true → SeenRelated setting t m → IsFollowed setting t m
+pub register_step-followed : (setting : MachineSetting) (t : ToldSeen) (m : MachineSeen) (f : Function) (inst : Inst) → IsSetting setting → IsAt setting.program t f inst → is_register_step inst.op ≡ true → SeenRelated setting t m → IsFollowed setting t m
 register_step-followed setting t m f inst is at computes related input =
     own setting (next_input input t.shared.source.input) t m f inst is at related inst.op computes refl
     (resolved-at setting.program t.frame.func t.frame.inst f inst is.runnable at.function at.instruction)

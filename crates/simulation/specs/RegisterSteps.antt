@@ -1,5 +1,5 @@
--- Steps that read and write registers alone: computations on integers and addresses, `select` and `freeze`, a part of a pair,
--- fences, and branches with the phis on their edges. Comparisons of pointers aren't among them.
+-- Steps that read and write registers alone: computations on integers and addresses, comparisons, `select` and `freeze`, a part
+-- of a pair, fences, and branches with the phis on their edges.
 use Rattle.std.specs.Prelude.{◌≡◌, ℕ, Bool, true, false, List, slice_get, Some}
 use Rattle.hw_tags.specs.InputState.{next_input}
 use Rattle.ir_core.specs.declared.ir_module.Function.{Function}
@@ -7,34 +7,27 @@ use Rattle.ir_core.specs.declared.ir_module.Inst.{Inst}
 use Rattle.ir_core.specs.declared.ir_module.Module.{Module}
 use Rattle.ir_core.specs.declared.operations.Op.{Op}
 use Rattle.ir_core.specs.declared.operations.Op.TheVariants as op
-use Rattle.ir_core.specs.declared.types.IrType.{IrType}
-use Rattle.ir_core.specs.declared.types.IrType.TheVariants.{Int}
-use Rattle.ir_core.specs.NumberTypes.{type_of}
 use Rattle.ir_machine.specs.State.{MachineSetting, MachineSeen}
 use Rattle.ir_machine.specs.InstructionStep.{machine_step}
 use Rattle.tag_story.specs.ToldRun.{ToldSeen, told_step}
 use Rattle.simulation.specs.Relation.{story_setting}
 use Rattle.simulation.specs.Following.{Follows}
 
-abbrev pub is_integer_type : IrType → Bool
-is_integer_type (Int width) = true
-is_integer_type other = false
-
 -- an instruction whose step reads and writes registers alone
-abbrev pub is_register_step : Module → Op → Bool
-is_register_step program (op.Binary kind a b) = true
-is_register_step program (op.Icmp pred a b) = is_integer_type (type_of program a.ty)
-is_register_step program (op.Cast kind a to) = true
-is_register_step program (op.Select cond a b) = true
-is_register_step program (op.Freeze a) = true
-is_register_step program (op.ExtractValue pair part) = true
-is_register_step program op.Fence = true
-is_register_step program (op.Gep ty base indices) = true
-is_register_step program (op.Br block) = true
-is_register_step program (op.BrIf cond at_one at_zero) = true
-is_register_step program (op.Switch on other cases) = true
-is_register_step program op.Unreachable = true
-is_register_step program other = false
+abbrev pub is_register_step : Op → Bool
+is_register_step (op.Binary kind a b) = true
+is_register_step (op.Icmp pred a b) = true
+is_register_step (op.Cast kind a to) = true
+is_register_step (op.Select cond a b) = true
+is_register_step (op.Freeze a) = true
+is_register_step (op.ExtractValue pair part) = true
+is_register_step op.Fence = true
+is_register_step (op.Gep ty base indices) = true
+is_register_step (op.Br block) = true
+is_register_step (op.BrIf cond at_one at_zero) = true
+is_register_step (op.Switch on other cases) = true
+is_register_step op.Unreachable = true
+is_register_step other = false
 
 -- the task's newest frame is at this instruction of this function
 pub record IsAt (program : Module) (t : ToldSeen) (f : Function) (inst : Inst) : Type 0 where

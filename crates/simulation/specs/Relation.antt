@@ -1,6 +1,6 @@
 -- The relation between the source run with its story and the machine: one record over what all tasks share, one over a frame,
 -- and one over what a step sees.
-use Rattle.std.specs.Prelude.{◌≡◌, ℕ, ◌+◌, List, [], ◌∷◌, length, map, take, slice_get, Some}
+use Rattle.std.specs.Prelude.{◌≡◌, ℕ, ◌+◌, ◌^◌, ◌<◌, List, [], ◌∷◌, length, map, take, slice_get, Some}
 use Rattle.std.specs.List.{filter_map}
 use Rattle.hw_base.specs.declared.numbers.TheConstants.{MOST_FRAMES, MOST_TASKS}
 use Rattle.dbg_sites.specs.ChainTable.{ChainEntry, IsChainTable}
@@ -34,6 +34,7 @@ pub record IsSetting (setting : MachineSetting) : Type 0 where
   pub runnable : IsRunnable setting.program
   pub code : setting.code ≡ instrumented setting.program
   pub room : HasRoom (story_setting setting)
+  pub below : setting.places.heap_at + setting.places.heap_length < 2 ^ 56
   pub frames : setting.places.most_frames ≡ MOST_FRAMES
   pub tasks : setting.places.most_tasks ≡ MOST_TASKS
 

@@ -23,10 +23,10 @@ pub fn images_stay()
 {}
 
 /// In related states the machine follows each source step that reads and writes registers alone: it gives the image of the same
-/// result, goes along the same edge, or traps at the same site, and the states stay related. Of a step that is stuck nothing is said. The function does nothing
-/// when it runs.
+/// result, goes along the same edge, or traps at the same site, and the states stay related. Of a step that is stuck
+/// or leaves the profile nothing is said. The function does nothing when it runs.
 pub fn register_steps_are_followed()
     ensures { (setting : MachineSetting) (t : ToldSeen) (m : MachineSeen) (f : Function) (inst : Inst)
-        → IsSetting setting → IsAt setting.program t f inst → is_register_step setting.program inst.op ≡ true
+        → IsSetting setting → IsAt setting.program t f inst → is_register_step inst.op ≡ true
         → SeenRelated setting t m → IsFollowed setting t m }
 {}
