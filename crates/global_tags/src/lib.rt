@@ -1,5 +1,5 @@
-//! Global variables and constants in memory: their places, their tags, and their first bytes. The layers above ask for a
-//! global's tagged address.
+//! Global variables and constants in memory: their places, their tags, and their first bytes. All of it is
+//! definitions with their laws and examples, and the machine's definitions use them.
 #![tactic(auto)]
 
 mod descriptor;

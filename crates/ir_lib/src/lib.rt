@@ -1,5 +1,5 @@
 //! Strings in the simulated memory: their bytes, and their check byte by byte. Copies and fills are those of the address
-//! space. The layers above give numbers, and get bytes or the fault.
+//! space. All of it is definitions with their laws and examples, and the machine's definitions use them.
 #![tactic(auto)]
 
 mod examples;

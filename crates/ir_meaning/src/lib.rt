@@ -1,6 +1,6 @@
 //! What a module of LLVM IR means, with no tag and no address: objects and offsets, the access rule, one step of a task
-//! and the run of all tasks, as definitions that every engine and the detection theorem are proved against. Its
-//! functions do nothing when they run: they carry examples shown by evaluation, and laws of the definitions.
+//! and the run of all tasks, as definitions. Nothing that computes uses them yet. The functions here do nothing when they
+//! run: they carry examples shown by evaluation, and laws of the definitions.
 #![tactic(auto)]
 
 mod ends_of_runs;

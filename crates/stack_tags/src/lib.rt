@@ -1,5 +1,6 @@
 //! Frames of variables with tags: the places and tags of a frame's variables, what memory is when a function is
-//! entered and left, and which ended frames a task remembers. The layers above ask for a variable's tagged address.
+//! entered and left, and which ended frames a task remembers. All of it is definitions with their laws and
+//! examples, and the machine's definitions use them.
 #![tactic(auto)]
 
 mod examples;

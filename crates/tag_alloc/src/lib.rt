@@ -1,5 +1,6 @@
 //! Heap blocks with tags: where a block is born and with which tag, what a free asks of its number, and what memory and
-//! the table of blocks are afterwards. The layers above call these by number.
+//! the table of blocks are afterwards. All of it is definitions with their laws and examples, and the machine's
+//! definitions use them.
 #![tactic(auto)]
 
 mod blocks;

@@ -1,6 +1,6 @@
 //! The tags that the objects of a source run would have: the story follows the births and deaths of the run, gives each
-//! object its place and tag, and judges a violation by the tag rule, with no memory and no machine. The definitions are
-//! here, with their laws and examples; what carries the detection theorem is above.
+//! object its place and tag, and judges a violation by the tag rule, with no memory and no machine. All of it is
+//! definitions with their laws and examples.
 #![tactic(auto)]
 
 mod examples;
