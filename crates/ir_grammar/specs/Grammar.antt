@@ -1,5 +1,6 @@
 -- The grammar of the shared productions: each name's rule, and reading by it.
 use Rattle.std.specs.Prelude.{ℕ, zero, suc, List, ◌++◌, ◌≡◌, Result, Ok, Err}
+use Rattle.hw_base.specs.declared.numbers.TheConstants.{MOST_NESTING}
 use Rattle.ir_grammar.specs.declared.terminal.Failure.{Failure}
 use Rattle.ir_grammar.specs.declared.terminal.Failure.TheVariants as failures
 use Rattle.ir_grammar.specs.declared.terminal.Flaw.{Flaw}
@@ -35,7 +36,7 @@ production blocks_inside = blocks_rule
 
 -- how many brackets may stand around one another. This project's choice
 abbrev pub nesting_limit : ℕ
-nesting_limit = 64
+nesting_limit = MOST_NESTING
 
 -- reading by a rule, where so many levels may still be opened
 abbrev pub read : {s : Sort Base} → ℕ → Production s → Reading Store (Value shared s)

@@ -4,11 +4,9 @@ ghost use Rattle.ir_grammar.specs.SoundStore.{IsInRange, IsSoundStore, IsSoundBl
 ghost use Rattle.ir_read_body.specs.BodyReading.{ReadsBody};
 
 use crate::blocks::function_body;
+use hw_base::MOST_NESTING;
 use ir_grammar::{Failure, Reader, SpelledBlock, Spellings, Terminal};
 use std::alloc::Global;
-
-/// How many brackets may stand around one another.
-const NESTING_LIMIT: u32 = 64;
 
 /// A function's body as it is spelled: its blocks, and what they spell, by number. Names are tokens.
 #[derive(Drop)]
@@ -34,7 +32,7 @@ fn read_at(alloc: Global, tokens: &[Terminal], at: usize) -> Result<Body, Failur
         rest: &tokens[at..],
         found: Spellings::new(alloc),
     };
-    let blocks = function_body(&mut reader, NESTING_LIMIT)?;
+    let blocks = function_body(&mut reader, MOST_NESTING)?;
     let next = tokens.len().saturating_sub(reader.rest.len());
     Ok(Body {
         raw: RawFunction {

@@ -10,11 +10,9 @@ use crate::declares::declare_item;
 use crate::globals::{global_item, used_item};
 use crate::items::{attribute_group, source_filename, target, type_item};
 use crate::nodes::{list_item, node_item};
+use hw_base::MOST_NESTING;
 use ir_grammar::{Failure, Kind, Reader, Spellings, Terminal};
 use std::alloc::Global;
-
-/// How many brackets may stand around one another.
-const NESTING_LIMIT: u32 = 64;
 
 /// The kinds that an item begins with wherever it stands, but for a declare.
 const STARTS: [Kind; 8] = [
@@ -164,7 +162,7 @@ fn spelled(alloc: Global, tokens: &[Terminal]) -> Result<Spellings, Failure>
         rest: tokens,
         found: Spellings::new(alloc),
     };
-    whole_module(&mut reader, NESTING_LIMIT)?;
+    whole_module(&mut reader, MOST_NESTING)?;
     Ok(reader.found)
 }
 
