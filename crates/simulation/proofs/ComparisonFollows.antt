@@ -100,13 +100,13 @@ size-rounded zero = omega arith
 size-rounded (suc n) = omega arith
 
 -- both tests of a conjunction hold
-both : (a b : Bool) → (a && b) ≡ true → (a ≡ true) × (b ≡ true)
+pub both : (a b : Bool) → (a && b) ≡ true → (a ≡ true) × (b ≡ true)
 both true true h = (refl, refl)
 both true false h = absurd cc
 both false b h = absurd cc
 
 -- what a test lets through
-if-some : {X : Type 0} (bit : Bool) (x y : X) → (if bit then Some x else None) ≡ Some y → (bit ≡ true) × (x ≡ y)
+pub if-some : {X : Type 0} (bit : Bool) (x y : X) → (if bit then Some x else None) ≡ Some y → (bit ≡ true) × (x ≡ y)
 if-some true x y h = (refl, let same : x ≡ y = cc in same)
 if-some false x y h = absurd cc
 

@@ -41,16 +41,16 @@ inside-below e (Stack func) task x room below h =
     omega (arith, high, own, stacks, below)
 inside-below e Heap task x room below h = let high = h.1 in omega (arith, high, below)
 
--- the object of a list with the same sizes
-same-sizes : (objects : List SourceObject) (told : List Placed) (k : ℕ) (x : SourceObject) → map (λ (y : Placed). y.size) told ≡ map (λ (y : SourceObject). y.size) objects → slice_get objects k ≡ Some x → (placed : Placed) × ((slice_get told k ≡ Some placed) × (placed.size ≡ x.size))
-same-sizes objects told k x same there = by_placed (slice_get told k) refl
+-- the item of a list that has the same numbers as another
+pub same-item : {X Y : Type 0} (f : X → ℕ) (g : Y → ℕ) (xs : List X) (ys : List Y) (k : ℕ) (x : X) → map g ys ≡ map f xs → slice_get xs k ≡ Some x → (y : Y) × ((slice_get ys k ≡ Some y) × (g y ≡ f x))
+same-item {X} {Y} f g xs ys k x same there = by_item (slice_get ys k) refl
   where
-    sizes : option_map (λ (y : Placed). y.size) (slice_get told k) ≡ Some x.size
-    sizes = sym (slice_get-map (λ (y : Placed). y.size) told k) ∙ ap (λ ys. slice_get ys k) same ∙ slice_get-map (λ (y : SourceObject). y.size) objects k ∙ ap (option_map (λ (y : SourceObject). y.size)) there
+    numbers : option_map g (slice_get ys k) ≡ Some (f x)
+    numbers = sym (slice_get-map g ys k) ∙ ap (λ ns. slice_get ns k) same ∙ slice_get-map f xs k ∙ ap (option_map f) there
 
-    by_placed : (o : Option Placed) → slice_get told k ≡ o → (placed : Placed) × ((slice_get told k ≡ Some placed) × (placed.size ≡ x.size))
-    by_placed None h = let none : option_map (λ (y : Placed). y.size) None ≡ Some x.size = ap (option_map (λ (y : Placed). y.size)) (sym h) ∙ sizes in absurd cc
-    by_placed (Some placed) h = let one : Some placed.size ≡ Some x.size = ap (option_map (λ (y : Placed). y.size)) (sym h) ∙ sizes in (placed, (h, let same : placed.size ≡ x.size = cc in same))
+    by_item : (o : Option Y) → slice_get ys k ≡ o → (y : Y) × ((slice_get ys k ≡ Some y) × (g y ≡ f x))
+    by_item None h = let none : option_map g None ≡ Some (f x) = ap (option_map g) (sym h) ∙ numbers in absurd cc
+    by_item (Some y) h = let one : Some (g y) ≡ Some (f x) = ap (option_map g) (sym h) ∙ numbers in (y, (h, let is : g y ≡ f x = cc in is))
 
 pub placed-as : (setting : MachineSetting) (births : List Birth) (w : Story) (o : Obj) (x : SourceObject) → IsSetting setting → IsLaidOut (story_setting setting) w → AreTold births w.births → get_object births o ≡ Some x → IsPlacedAs w o x
 placed-as setting births w o x is laid told found = by_birth (slice_get births o.birth) refl found
@@ -62,7 +62,7 @@ placed-as setting births w o x is laid told found = by_birth (slice_get births o
         let within = slice_get_within births o.birth birth here in
         let (story, there) = get-below w.births o.birth (omega (arith, count, within)) in
         let same = told.each o.birth birth story here there in
-        let (placed, (at, size)) = same-sizes birth.objects story.objects o.index x same.sizes h in
+        let (placed, (at, size)) = same-item (λ (y : SourceObject). y.size) (λ (y : Placed). y.size) birth.objects story.objects o.index x same.sizes h in
         let object : IsObject w.births o.birth o.index story placed = record { there = there; object = at } in
         let tags = some-tag story.region placed (laid.tagged o.birth o.index story placed object) in
         record {

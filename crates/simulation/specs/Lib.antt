@@ -1,3 +1,4 @@
+pub mod Checks
 pub mod Following
 pub mod Images
 pub mod Parts

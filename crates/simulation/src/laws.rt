@@ -1,16 +1,20 @@
-ghost use Rattle.std.specs.Prelude.{◌≡◌, ℕ, true, List, Option, Ok};
+ghost use Rattle.std.specs.Prelude.{◌≡◌, ℕ, true, List, Option, Ok, option_map};
 ghost use Rattle.ir_core.specs.declared.ir_module.Function.{Function};
 ghost use Rattle.ir_core.specs.declared.ir_module.Inst.{Inst};
-ghost use Rattle.ir_machine.specs.State.{MachineSeen, MachineSetting};
+ghost use Rattle.ir_machine.specs.State.{MachineSeen, MachineSetting, MachineShared};
+ghost use Rattle.ir_machine.specs.declared.found.Found.TheVariants.{Memory};
 ghost use Rattle.ir_meaning.specs.State.{News};
 ghost use Rattle.ir_meaning.specs.Values.{Value};
 ghost use Rattle.simulation.specs.RegisterSteps.{IsAt, IsFollowed, is_register_step};
+ghost use Rattle.simulation.specs.Checks.{FindsJudged};
 ghost use Rattle.simulation.specs.Images.{Stays};
 ghost use Rattle.simulation.specs.Parts.{HasRegisters, IsKnownValue};
-ghost use Rattle.simulation.specs.Relation.{IsSetting, SeenRelated};
+ghost use Rattle.simulation.specs.Relation.{IsSetting, SeenRelated, SharedRelated, story_setting};
+ghost use Rattle.tag_story.specs.Judging.{access_judged};
 ghost use Rattle.tag_story.specs.Story.{Story, StoryBirth, StorySetting, value_image};
 ghost use Rattle.tag_story.specs.Telling.{all_told};
-ghost use Rattle.tag_story.specs.ToldRun.{ToldSeen};
+ghost use Rattle.tag_story.specs.ToldRun.{ToldSeen, ToldShared};
+ghost use Rattle.tbi_memory.specs.AddressSpace.{check};
 
 /// Births and deaths move no object that was born before and change no tag, so that the number of a value stays, and
 /// registers that have the images of values go on to have them. The function does nothing when it runs.
@@ -29,4 +33,13 @@ pub fn register_steps_are_followed()
     ensures { (setting : MachineSetting) (t : ToldSeen) (m : MachineSeen) (f : Function) (inst : Inst)
         → IsSetting setting → IsAt setting.program t f inst → is_register_step inst.op ≡ true
         → SeenRelated setting t m → IsFollowed setting t m }
+{}
+
+/// In related states the checks of the machine find what the story says, for every number and size: nothing if the story says
+/// that the access passes, and else what the story says refuses it. So a report comes exactly if the tag rule, on the places and
+/// tags of the story alone, refuses the access. The function does nothing when it runs.
+pub fn checks_find_what_the_story_says()
+    ensures { (setting : MachineSetting) (t : ToldShared) (m : MachineShared) (number size : ℕ) → SharedRelated setting t m
+        → FindsJudged (access_judged (story_setting setting) t.story t.source.births number size)
+        (option_map Memory (check m.memory number size)) }
 {}

@@ -5,4 +5,4 @@
 
 mod laws;
 
-pub use laws::{images_stay, register_steps_are_followed};
+pub use laws::{checks_find_what_the_story_says, images_stay, register_steps_are_followed};
