@@ -43,7 +43,7 @@ short-between : (memory : ℕ) → is_short_size memory ≡ true → (1 ≤ memo
 short-between memory h = let tests = both (nat_le 1 memory) (nat_le memory 15) h in (leb-true 1 memory tests.0, leb-true memory 15 tests.1)
 
 -- the tag of a granule that isn't wholly inside its object is the number of the object's bytes in it
-short-tag : (size tag k memory : ℕ) → (16 * k + 16 ≤ size → ⊥) → tag_in size tag k ≡ memory → memory ≡ size % 16
+pub short-tag : (size tag k memory : ℕ) → (16 * k + 16 ≤ size → ⊥) → tag_in size tag k ≡ memory → memory ≡ size % 16
 short-tag size tag k memory partial is =
     elim (leb_tells (16 * k + 16) size) [
       | inl holds ↦ absurd (partial holds.1)

@@ -95,7 +95,7 @@ compare-after Sle start a b same = le-after start a b ∙ sym (signed-le (start 
 
 -- ---- the numbers of two pointers
 
-size-rounded : (size : ℕ) → size ≤ rounded_size size
+pub size-rounded : (size : ℕ) → size ≤ rounded_size size
 size-rounded zero = omega arith
 size-rounded (suc n) = omega arith
 

@@ -3,6 +3,8 @@ pub mod BranchFollows
 pub mod ChecksAgree
 pub mod CodeAt
 pub mod ComparisonFollows
+pub mod FinePasses
+pub mod FreesAgree
 pub mod Images
 pub mod ObjectPlaces
 pub mod OperandImages

@@ -1,17 +1,24 @@
-ghost use Rattle.std.specs.Prelude.{◌≡◌, ℕ, true, List, Option, Ok, option_map};
+ghost use Rattle.std.specs.Prelude.{◌≡◌, ◌≢◌, ℕ, true, List, None, Option, Ok, option_map};
+ghost use Rattle.hw_base.specs.declared.accesses.Access.{Access};
+ghost use Rattle.hw_base.specs.declared.accesses.Access.TheVariants.{Free};
+ghost use Rattle.hw_base.specs.declared.pointers.Base.{Base};
 ghost use Rattle.ir_core.specs.declared.ir_module.Function.{Function};
 ghost use Rattle.ir_core.specs.declared.ir_module.Inst.{Inst};
 ghost use Rattle.ir_machine.specs.State.{MachineSeen, MachineSetting, MachineShared};
-ghost use Rattle.ir_machine.specs.declared.found.Found.TheVariants.{Memory};
+ghost use Rattle.ir_machine.specs.declared.found.Found.TheVariants.{Block, Memory};
+ghost use Rattle.ir_meaning.specs.AccessRule.{Fine, access_answer};
+ghost use Rattle.ir_meaning.specs.Births.{Birth};
 ghost use Rattle.ir_meaning.specs.State.{News};
 ghost use Rattle.ir_meaning.specs.Values.{Value};
 ghost use Rattle.simulation.specs.RegisterSteps.{IsAt, IsFollowed, is_register_step};
 ghost use Rattle.simulation.specs.Checks.{FindsJudged};
 ghost use Rattle.simulation.specs.Images.{Stays};
-ghost use Rattle.simulation.specs.Parts.{HasRegisters, IsKnownValue};
+ghost use Rattle.simulation.specs.Parts.{AreTold, HasRegisters, IsKnownValue};
 ghost use Rattle.simulation.specs.Relation.{IsSetting, SeenRelated, SharedRelated, story_setting};
-ghost use Rattle.tag_story.specs.Judging.{access_judged};
-ghost use Rattle.tag_story.specs.Story.{Story, StoryBirth, StorySetting, value_image};
+ghost use Rattle.tag_alloc.specs.HeapBlocks.{free_mismatch};
+ghost use Rattle.tag_story.specs.Judging.{access_judged, free_judged, refusing};
+ghost use Rattle.tag_story.specs.Story.{Story, StoryBirth, StorySetting, number_of, value_image};
+ghost use Rattle.tag_story.specs.StoryFacts.{IsLaidOut};
 ghost use Rattle.tag_story.specs.Telling.{all_told};
 ghost use Rattle.tag_story.specs.ToldRun.{ToldSeen, ToldShared};
 ghost use Rattle.tbi_memory.specs.AddressSpace.{check};
@@ -36,10 +43,21 @@ pub fn register_steps_are_followed()
 {}
 
 /// In related states the checks of the machine find what the story says, for every number and size: nothing if the story says
-/// that the access passes, and else what the story says refuses it. So a report comes exactly if the tag rule, on the places and
-/// tags of the story alone, refuses the access. The function does nothing when it runs.
+/// that the access or the free passes, and else what the story says refuses it. So a report comes exactly if the tag rule, on
+/// the places and tags of the story alone, refuses the access. The function does nothing when it runs.
 pub fn checks_find_what_the_story_says()
-    ensures { (setting : MachineSetting) (t : ToldShared) (m : MachineShared) (number size : ℕ) → SharedRelated setting t m
+    ensures accesses { (setting : MachineSetting) (t : ToldShared) (m : MachineShared) (number size : ℕ) → SharedRelated setting t m
         → FindsJudged (access_judged (story_setting setting) t.story t.source.births number size)
         (option_map Memory (check m.memory number size)) }
+    ensures frees { (setting : MachineSetting) (t : ToldShared) (m : MachineShared) (number : ℕ) → SharedRelated setting t m
+        → FindsJudged (free_judged t.story number) (option_map Block (free_mismatch m.heap number)) }
+{}
+
+/// The tag rule passes each read and write that the access rule finds fine: on the places and tags of the story, with any tag
+/// words, nothing refuses it. The function does nothing when it runs.
+pub fn no_fine_access_is_refused()
+    ensures { (setting : MachineSetting) (objects : List Birth) (w : Story) (access : Access) (base : Base) (off count align : ℕ)
+        → IsSetting setting → IsLaidOut (story_setting setting) w → AreTold objects w.births
+        → access ≢ Free → access_answer objects access base off count align ≡ Fine
+        → refusing (story_setting setting) w objects (number_of w.births base off) count ≡ None }
 {}

@@ -5,4 +5,7 @@
 
 mod laws;
 
-pub use laws::{checks_find_what_the_story_says, images_stay, register_steps_are_followed};
+pub use laws::{
+    checks_find_what_the_story_says, images_stay, no_fine_access_is_refused,
+    register_steps_are_followed,
+};
