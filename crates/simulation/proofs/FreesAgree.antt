@@ -14,8 +14,8 @@ use Rattle.tag_story.specs.StoryTags.{covers}
 use Rattle.tag_story.specs.declared.judgement.Coincidence.TheVariants.{BlockTag, NullNumber}
 use Rattle.tag_story.specs.declared.judgement.Judgement.TheVariants.{Passes, Refused}
 use Rattle.tag_story.specs.declared.judgement.Refusing.TheVariants.{Block as BlockOf}
-use Rattle.tag_story.specs.Story.{Placed, StoryBirth}
-use Rattle.tag_story.specs.StoryFacts.{IsObject}
+use Rattle.tag_story.specs.Story.{StorySetting, Story, Placed, StoryBirth}
+use Rattle.tag_story.specs.StoryFacts.{IsLaidOut, IsObject}
 use Rattle.tag_story.specs.ToldRun.{ToldShared}
 use Rattle.simulation.specs.Checks.{FindsJudged}
 use Rattle.simulation.specs.Relation.{SharedRelated, story_setting}
@@ -23,21 +23,21 @@ use Rattle.simulation.specs.Relation.{SharedRelated, story_setting}
 -- ---- the block that the story has at an address
 
 -- an object of a living block, which begins at an address
-record BeginsAt (births : List StoryBirth) (address n k : ℕ) (birth : StoryBirth) (x : Placed) : Type 0 where
-  there : slice_get births n ≡ Some birth
-  heap : birth.region ≡ Heap
-  alive : is_living birth.life ≡ true
-  object : slice_get birth.objects k ≡ Some x
-  at : x.at ≡ address
+pub record BeginsAt (births : List StoryBirth) (address n k : ℕ) (birth : StoryBirth) (x : Placed) : Type 0 where
+  pub there : slice_get births n ≡ Some birth
+  pub heap : birth.region ≡ Heap
+  pub alive : is_living birth.life ≡ true
+  pub object : slice_get birth.objects k ≡ Some x
+  pub at : x.at ≡ address
 
 -- some such object has this tag
-record HasBlockTag (births : List StoryBirth) (address tag : ℕ) : Type 0 where
-  n : ℕ
-  k : ℕ
-  birth : StoryBirth
-  x : Placed
-  begins : BeginsAt births address n k birth x
-  tagged : x.tag ≡ tag
+pub record HasBlockTag (births : List StoryBirth) (address tag : ℕ) : Type 0 where
+  pub n : ℕ
+  pub k : ℕ
+  pub birth : StoryBirth
+  pub x : Placed
+  pub begins : BeginsAt births address n k birth x
+  pub tagged : x.tag ≡ tag
 
 record IsAmong (objects : List Placed) (address tag : ℕ) : Type 0 where
   k : ℕ
@@ -86,7 +86,7 @@ later-tag birth births address tag has =
       begins = record { there = has.begins.there; heap = has.begins.heap; alive = has.begins.alive; object = has.begins.object; at = has.begins.at };
     }
 
-tag-some : (births : List StoryBirth) (address tag : ℕ) → block_tag_at births address ≡ Some tag → HasBlockTag births address tag
+pub tag-some : (births : List StoryBirth) (address tag : ℕ) → block_tag_at births address ≡ Some tag → HasBlockTag births address tag
 unfolding block_tag_at
 tag-some [] address tag h = absurd cc
 tag-some (birth ∷ births) address tag h = by_region birth.region refl h (tag-some births address tag)
@@ -112,7 +112,7 @@ tag-some (birth ∷ births) address tag h = by_region birth.region refl h (tag-s
     by_region Heap is e later = by_life (is_living birth.life) refl is e later
 
 -- no living block of the story begins at an address
-abbrev NoneBegins : List StoryBirth → (address : ℕ) → Type 0
+abbrev pub NoneBegins : List StoryBirth → (address : ℕ) → Type 0
 NoneBegins births address = (n k : ℕ) (birth : StoryBirth) (x : Placed) → BeginsAt births address n k birth x → ⊥
 
 first-none : (birth : StoryBirth) (births : List StoryBirth) (address : ℕ) → (birth.region ≡ Heap → is_living birth.life ≡ true → (k : ℕ) (x : Placed) → slice_get birth.objects k ≡ Some x → x.at ≢ address) → NoneBegins births address → NoneBegins (birth ∷ births) address
@@ -123,7 +123,7 @@ first-none birth births address first later zero k other x begins =
 first-none birth births address first later (suc n) k other x begins =
     later n k other x (record { there = begins.there; heap = begins.heap; alive = begins.alive; object = begins.object; at = begins.at })
 
-tag-none : (births : List StoryBirth) (address : ℕ) → block_tag_at births address ≡ None → NoneBegins births address
+pub tag-none : (births : List StoryBirth) (address : ℕ) → block_tag_at births address ≡ None → NoneBegins births address
 unfolding block_tag_at
 tag-none [] address h = λ n k birth x begins. let there = begins.there in absurd cc
 tag-none (birth ∷ births) address h = by_region birth.region refl h (tag-none births address)
@@ -166,6 +166,24 @@ find-none (first ∷ blocks) address h i block there same = by_test (first.at ==
         absurd cc
     by_test false other e (suc j) at later = later e j block at same
 
+-- living blocks that begin at one address have one tag
+pub one-tag : (e : StorySetting) (w : Story) (laid : IsLaidOut e w) (address n k j l : ℕ) (birth other : StoryBirth) (x y : Placed) → BeginsAt w.births address n k birth x → BeginsAt w.births address j l other y → x.tag ≡ y.tag
+one-tag e w laid address n k j l birth other x y first second =
+    let object : IsObject w.births n k birth x = record { there = first.there; object = first.object } in
+    let also : IsObject w.births j l other y = record { there = second.there; object = second.object } in
+    let same = one-owner e w (x.at / 16) n k j l birth other x y laid object also first.alive second.alive (over n k birth x object (x.at / 16) refl) (over j l other y also (x.at / 16) (ap (λ a. a / 16) (first.at ∙ sym second.at))) in
+    let births : Some birth ≡ Some other = sym first.there ∙ ap (slice_get w.births) same.0 ∙ second.there in
+    let one : birth ≡ other = cc in
+    let placed : Some x ≡ Some y = sym first.object ∙ ap (λ (b : StoryBirth). slice_get b.objects k) one ∙ ap (slice_get other.objects) same.1 ∙ second.object in
+    let equal : x ≡ y = cc in
+    ap (λ (p : Placed). p.tag) equal
+  where
+    over : (a b : ℕ) (c : StoryBirth) (z : Placed) → IsObject w.births a b c z → (granule : ℕ) → granule ≡ z.at / 16 → covers z granule ≡ true
+    over a b c z is granule here =
+        let aligned = laid.aligned a b c z is in
+        let some = (rounded-some z.size).0 in
+        covers-true z granule (omega (arith, here, aligned)) (omega (arith, here, aligned, some))
+
 module _ (setting : MachineSetting) (t : ToldShared) (m : MachineShared) (related : SharedRelated setting t m) where
   -- the block's object begins where the block does
   block-begins : (address i : ℕ) (block : Block) → slice_get m.heap.living i ≡ Some block → block.at ≡ address → (birth : StoryBirth) × (BeginsAt t.story.births address block.birth 0 birth (record { at = block.at; size = block.size; tag = block.tag }))
@@ -191,24 +209,6 @@ module _ (setting : MachineSetting) (t : ToldShared) (m : MachineShared) (relate
       let object = only-object birth.objects (record { at = block.at; size = block.size; tag = block.tag }) x k (ap (λ (b : StoryBirth). b.objects) (sym one) ∙ is.objects) begins.object in
       (i, (block, (there, ap (λ (p : Placed). p.at) object ∙ begins.at)))
 
-  -- living blocks that begin at one address have one tag
-  one-tag : (address n k j l : ℕ) (birth other : StoryBirth) (x y : Placed) → BeginsAt t.story.births address n k birth x → BeginsAt t.story.births address j l other y → x.tag ≡ y.tag
-  one-tag address n k j l birth other x y first second =
-      let object : IsObject t.story.births n k birth x = record { there = first.there; object = first.object } in
-      let also : IsObject t.story.births j l other y = record { there = second.there; object = second.object } in
-      let same = one-owner (story_setting setting) t.story (x.at / 16) n k j l birth other x y related.laid object also first.alive second.alive (over n k birth x object (x.at / 16) refl) (over j l other y also (x.at / 16) (ap (λ a. a / 16) (first.at ∙ sym second.at))) in
-      let births : Some birth ≡ Some other = sym first.there ∙ ap (slice_get t.story.births) same.0 ∙ second.there in
-      let one : birth ≡ other = cc in
-      let placed : Some x ≡ Some y = sym first.object ∙ ap (λ (b : StoryBirth). slice_get b.objects k) one ∙ ap (slice_get other.objects) same.1 ∙ second.object in
-      let equal : x ≡ y = cc in
-      ap (λ (p : Placed). p.tag) equal
-    where
-      over : (a b : ℕ) (c : StoryBirth) (z : Placed) → IsObject t.story.births a b c z → (granule : ℕ) → granule ≡ z.at / 16 → covers z granule ≡ true
-      over a b c z is granule here =
-          let aligned = related.laid.aligned a b c z is in
-          let some = (rounded-some z.size).0 in
-          covers-true z granule (omega (arith, here, aligned)) (omega (arith, here, aligned, some))
-
   -- the block that begins at an address has the tag that the story says
   tags-same : (address : ℕ) (block : Option Block) (tag : Option ℕ) → block_at m.heap address ≡ block → block_tag_at t.story.births address ≡ tag → option_map (λ (b : Block). b.tag) block ≡ tag
   tags-same address None None here told = refl
@@ -224,7 +224,7 @@ module _ (setting : MachineSetting) (t : ToldShared) (m : MachineShared) (relate
       let found = find-some m.heap.living address block here in
       let begins = block-begins address found.0 block found.1.0 found.1.1 in
       let has = tag-some t.story.births address tag told in
-      ap (λ n. Some n) (one-tag address block.birth 0 has.n has.k begins.0 has.birth _ has.x begins.1 has.begins ∙ has.tagged)
+      ap (λ n. Some n) (one-tag (story_setting setting) t.story related.laid address block.birth 0 has.n has.k begins.0 has.birth _ has.x begins.1 has.begins ∙ has.tagged)
 
   -- ---- frees
 

@@ -3,6 +3,7 @@ pub mod BranchFollows
 pub mod ChecksAgree
 pub mod CodeAt
 pub mod ComparisonFollows
+pub mod FineFrees
 pub mod FinePasses
 pub mod FreesAgree
 pub mod Images

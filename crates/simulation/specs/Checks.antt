@@ -1,6 +1,7 @@
 -- What a check of the machine finds, beside what the story says of the same access or free.
 use Rattle.std.specs.Prelude.{◌≡◌, Option, Some, None}
 use Rattle.ir_machine.specs.declared.found.Found.{Found}
+use Rattle.tag_story.specs.declared.judgement.Coincidence.{Coincidence}
 use Rattle.tag_story.specs.declared.judgement.Judgement.{Judgement}
 use Rattle.tag_story.specs.declared.judgement.Judgement.TheVariants.{Passes, Refused}
 use Rattle.simulation.specs.Following.{refusing_found}
@@ -9,3 +10,7 @@ use Rattle.simulation.specs.Following.{refusing_found}
 abbrev pub FindsJudged : Judgement → Option Found → Type 0
 FindsJudged (Passes coincidence) found = found ≡ None
 FindsJudged (Refused refused) found = (one : Found) × ((found ≡ Some one) × (refusing_found one ≡ refused))
+
+-- the story says that it passes
+abbrev pub IsPassed : Judgement → Type 0
+IsPassed judgement = (coincidence : Coincidence) × (judgement ≡ Passes coincidence)

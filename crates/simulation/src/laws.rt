@@ -11,7 +11,7 @@ ghost use Rattle.ir_meaning.specs.Births.{Birth};
 ghost use Rattle.ir_meaning.specs.State.{News};
 ghost use Rattle.ir_meaning.specs.Values.{Value};
 ghost use Rattle.simulation.specs.RegisterSteps.{IsAt, IsFollowed, is_register_step};
-ghost use Rattle.simulation.specs.Checks.{FindsJudged};
+ghost use Rattle.simulation.specs.Checks.{FindsJudged, IsPassed};
 ghost use Rattle.simulation.specs.Images.{Stays};
 ghost use Rattle.simulation.specs.Parts.{AreTold, HasRegisters, IsKnownValue};
 ghost use Rattle.simulation.specs.Relation.{IsSetting, SeenRelated, SharedRelated, story_setting};
@@ -53,11 +53,15 @@ pub fn checks_find_what_the_story_says()
         → FindsJudged (free_judged t.story number) (option_map Block (free_mismatch m.heap number)) }
 {}
 
-/// The tag rule passes each read and write that the access rule finds fine: on the places and tags of the story, with any tag
-/// words, nothing refuses it. The function does nothing when it runs.
+/// The tag rule passes each access that the access rule finds fine, on the places and tags of the story, with any tag words:
+/// nothing refuses a read or a write, and a free passes. The function does nothing when it runs.
 pub fn no_fine_access_is_refused()
-    ensures { (setting : MachineSetting) (objects : List Birth) (w : Story) (access : Access) (base : Base) (off count align : ℕ)
+    ensures accesses { (setting : MachineSetting) (objects : List Birth) (w : Story) (access : Access) (base : Base) (off count align : ℕ)
         → IsSetting setting → IsLaidOut (story_setting setting) w → AreTold objects w.births
         → access ≢ Free → access_answer objects access base off count align ≡ Fine
         → refusing (story_setting setting) w objects (number_of w.births base off) count ≡ None }
+    ensures frees { (setting : MachineSetting) (objects : List Birth) (w : Story) (base : Base) (off count align : ℕ)
+        → IsSetting setting → IsLaidOut (story_setting setting) w → AreTold objects w.births
+        → access_answer objects Free base off count align ≡ Fine
+        → IsPassed (free_judged w (number_of w.births base off)) }
 {}
