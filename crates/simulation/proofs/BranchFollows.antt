@@ -1,5 +1,5 @@
 -- The machine follows the steps that go to another block: the phis of an edge are its moves, read before one is set.
-use Rattle.std.proofs.Common.{◌≡◌, ℕ, zero, suc, ◌<◌, ◌==◌, Bool, true, false, if◌then◌else◌, List, [], ◌∷◌, ◌++◌, length, map, take, drop, slice_get, slice_set, slice_index, Option, Some, None, All, refl, sym, ◌∙◌, subst, arith}
+use Rattle.std.proofs.Common.{◌≡◌, ◌+◌, ℕ, suc, ◌<◌, ◌==◌, Bool, true, false, if◌then◌else◌, List, [], ◌∷◌, ◌++◌, length, map, drop, slice_get, slice_set, slice_index, Option, Some, None, All, refl, sym, ◌∙◌, subst, arith}
 use Rattle.std.specs.Prelude.{option_and_then}
 use Rattle.std.proofs.lemmas.List.{length-set}
 use Rattle.hw_base.specs.Bits.{is_set}
@@ -37,6 +37,7 @@ use Rattle.tag_story.specs.Story.{StoryBirth, value_image}
 use Rattle.tag_story.specs.Telling.{all_told}
 use Rattle.tag_story.specs.ToldRun.{ToldSeen, source_seen}
 use Rattle.simulation.proofs.ArithmeticFollows.{IsOperandOf, one-bit}
+use Rattle.simulation.proofs.ListParts.{get-take, get-drop}
 use Rattle.simulation.proofs.OperandsThere.{operand-of}
 use Rattle.simulation.proofs.PlainSteps.{FollowsIn, own_site, at-related, integer-follows, named-follows, traps-follows}
 use Rattle.simulation.proofs.RegisterImages.{IsSingle, register-set, past-set}
@@ -144,17 +145,6 @@ module _ (setting : MachineSetting) (t : ToldSeen) (m : MachineSeen) (f : Functi
 
   -- ---- edges
 
-  get-take : {X : Type 0} (n : ℕ) (xs : List X) (k : ℕ) (x : X) → slice_get (take n xs) k ≡ Some x → slice_get xs k ≡ Some x
-  get-take zero xs k x h = absurd cc
-  get-take (suc n) [] k x h = absurd cc
-  get-take (suc n) (y ∷ xs) zero x h = h
-  get-take (suc n) (y ∷ xs) (suc k) x h = get-take n xs k x h
-
-  get-drop : {X : Type 0} (n : ℕ) (xs : List X) (k : ℕ) (x : X) → slice_get (drop n xs) k ≡ Some x → (i : ℕ) × (slice_get xs i ≡ Some x)
-  get-drop zero xs k x h = (k, h)
-  get-drop (suc n) [] k x h = absurd cc
-  get-drop (suc n) (y ∷ xs) k x h = let later = get-drop n xs k x h in (suc later.0, later.1)
-
   -- the edge to a block, whose frame is at the block's first instruction after its phis
   edge-related : IsResolvedFunction setting.program f → slice_get setting.program.functions t.frame.func ≡ Some f → (from target : ℕ) (block : Block) (given : List (Option ℕ × Value)) → 0 < target → slice_get f.blocks target ≡ Some block → phi_values setting.program t.frame.registers from (phis_of f.insts block) ≡ Some given
       → SeenRelated setting (record t { frame = source.moved_to t.frame (with_results t.frame.registers given) (start_of block) }) (along m (edge_to f (starts_of setting.program f) from target))
@@ -172,8 +162,8 @@ module _ (setting : MachineSetting) (t : ToldSeen) (m : MachineSeen) (f : Functi
     where
       phis-resolved : AreResolved (phis_of f.insts block)
       phis-resolved k phi found =
-          let inside = get-drop block.first f.insts k phi (get-take block.phis (drop block.first f.insts) k phi found) in
-          all-at (λ (x : Inst). IsResolvedOp setting.program f x.op) f.insts inside.0 phi resolved.instructions inside.1
+          all-at (λ (x : Inst). IsResolvedOp setting.program f x.op) f.insts (block.first + k) phi resolved.instructions
+          (get-drop block.first f.insts k phi (get-take block.phis (drop block.first f.insts) k phi found))
 
   -- the machine goes along the edge
   goes_to-follows : IsResolvedFunction setting.program f → slice_get setting.program.functions t.frame.func ≡ Some f → (target : ℕ) → IsTarget f target → FollowsIn setting t (goes_to setting.program f (source_seen t) target) (Goes (along m (edge_to f (starts_of setting.program f) (block_holding f.blocks t.frame.inst) target)) [])

@@ -1,5 +1,5 @@
 -- The code at a frame: the machine instructions of the source instruction at which it is.
-use Rattle.std.proofs.Common.{◌≡◌, ℕ, zero, suc, ◌+◌, List, [], ◌∷◌, ◌++◌, slice_get, Some, ◌∙◌, ap}
+use Rattle.std.proofs.Common.{◌≡◌, ℕ, ◌+◌, List, slice_get, Some, ◌∙◌, ap}
 use Rattle.ir_core.specs.declared.ir_module.Function.{Function}
 use Rattle.ir_core.specs.declared.ir_module.Inst.{Inst}
 use Rattle.ir_core.specs.declared.ir_module.Module.{Module}
@@ -9,15 +9,11 @@ use Rattle.mi_code.specs.Instrumentation.{place_of, code_of_instruction, code_of
 use Rattle.ir_machine.specs.CallSteps.{code_by, code_at, instruction_at}
 use Rattle.ir_tasks.specs.Frames.{Frame}
 use Rattle.ir_machine.proofs.CodeAt.{code-get, instrumented-get}
+use Rattle.simulation.proofs.ListParts.{get-append}
 
 -- the code of a function of the module
 pub code-at : (m : Module) (func : ℕ) (f : Function) → slice_get m.functions func ≡ Some f → code_at (instrumented m) func ≡ code_of_function m func f
 code-at m func f h = ap code_by (instrumented-get m func f h)
-
-get-append : {X : Type 0} (xs ys : List X) (k : ℕ) (x : X) → slice_get xs k ≡ Some x → slice_get (xs ++ ys) k ≡ Some x
-get-append [] ys k x h = absurd cc
-get-append (z ∷ xs) ys zero x h = h
-get-append (z ∷ xs) ys (suc k) x h = get-append xs ys k x h
 
 -- the code of the instruction at which a frame is
 abbrev pub own_code : Module → Function → (func i : ℕ) → Inst → List Mi

@@ -179,7 +179,7 @@ module _ (setting : MachineSetting) (objects : List Birth) (w : Story) (laid : I
 -- ---- fine accesses
 
 -- an access to some bytes of an object that is fine lies within the object, which lives
-fine-object : (access : Access) (region : Region) (x : SourceObject) (off n align : ℕ) → bytes_answer access (accessed_in region (Some x)) off (suc n) align ≡ Fine → (is_living x.life ≡ true) × (off + suc n ≤ x.size)
+pub fine-object : (access : Access) (region : Region) (x : SourceObject) (off n align : ℕ) → bytes_answer access (accessed_in region (Some x)) off (suc n) align ≡ Fine → (is_living x.life ≡ true) × (off + suc n ≤ x.size)
 fine-object access region x off n align h = by_align (off % align == 0) h
   where
     is_dead : (r : Region) → dead_answer r ≡ Fine → ⊥
@@ -200,7 +200,7 @@ fine-object access region x off n align h = by_align (off % align == 0) h
     by_align false e = absurd cc
 
 -- an access through a pointer to nothing is never fine
-fine-nothing : (access : Access) (base : AccessBase) (off n align : ℕ) → base_answer access base off (suc n) ≡ NoAnswer ⊎ ((kind : Kind) × (base_answer access base off (suc n) ≡ Violates kind)) → bytes_answer access base off (suc n) align ≡ Fine → ⊥
+pub fine-nothing : (access : Access) (base : AccessBase) (off n align : ℕ) → base_answer access base off (suc n) ≡ NoAnswer ⊎ ((kind : Kind) × (base_answer access base off (suc n) ≡ Violates kind)) → bytes_answer access base off (suc n) align ≡ Fine → ⊥
 fine-nothing access base off n align none h = by_align (off % align == 0) h none
   where
     by_align : (aligned : Bool) → (if aligned then base_answer access base off (suc n) else IsOutside Misaligned) ≡ Fine → base_answer access base off (suc n) ≡ NoAnswer ⊎ ((kind : Kind) × (base_answer access base off (suc n) ≡ Violates kind)) → ⊥

@@ -7,6 +7,7 @@ pub mod FineFrees
 pub mod FinePasses
 pub mod FreesAgree
 pub mod Images
+pub mod ListParts
 pub mod ObjectPlaces
 pub mod OperandImages
 pub mod OperandsThere
@@ -15,6 +16,7 @@ pub mod PlacesTold
 pub mod PlainSteps
 pub mod PointerComparisons
 pub mod PointerFollows
+pub mod ReadImages
 pub mod RegisterImages
 pub mod RegisterSteps
 pub mod SameMismatches

@@ -1,4 +1,4 @@
-ghost use Rattle.std.specs.Prelude.{◌≡◌, ◌≢◌, ℕ, true, List, None, Option, Ok, option_map};
+ghost use Rattle.std.specs.Prelude.{◌≡◌, ◌≢◌, ℕ, true, List, None, Option, Ok, map, option_map};
 ghost use Rattle.hw_base.specs.declared.accesses.Access.{Access};
 ghost use Rattle.hw_base.specs.declared.accesses.Access.TheVariants.{Free};
 ghost use Rattle.hw_base.specs.declared.pointers.Base.{Base};
@@ -7,7 +7,7 @@ ghost use Rattle.ir_core.specs.declared.ir_module.Inst.{Inst};
 ghost use Rattle.ir_machine.specs.State.{MachineSeen, MachineSetting, MachineShared};
 ghost use Rattle.ir_machine.specs.declared.found.Found.TheVariants.{Block, Memory};
 ghost use Rattle.ir_meaning.specs.AccessRule.{Fine, access_answer};
-ghost use Rattle.ir_meaning.specs.Births.{Birth};
+ghost use Rattle.ir_meaning.specs.Births.{Birth, bytes_at};
 ghost use Rattle.ir_meaning.specs.State.{News};
 ghost use Rattle.ir_meaning.specs.Values.{Value};
 ghost use Rattle.simulation.specs.RegisterSteps.{IsAt, IsFollowed, is_register_step};
@@ -17,11 +17,11 @@ ghost use Rattle.simulation.specs.Parts.{AreTold, HasRegisters, IsKnownValue};
 ghost use Rattle.simulation.specs.Relation.{IsSetting, SeenRelated, SharedRelated, story_setting};
 ghost use Rattle.tag_alloc.specs.HeapBlocks.{free_mismatch};
 ghost use Rattle.tag_story.specs.Judging.{access_judged, free_judged, refusing};
-ghost use Rattle.tag_story.specs.Story.{Story, StoryBirth, StorySetting, number_of, value_image};
+ghost use Rattle.tag_story.specs.Story.{Story, StoryBirth, StorySetting, byte_image, number_of, value_image};
 ghost use Rattle.tag_story.specs.StoryFacts.{IsLaidOut};
 ghost use Rattle.tag_story.specs.Telling.{all_told};
 ghost use Rattle.tag_story.specs.ToldRun.{ToldSeen, ToldShared};
-ghost use Rattle.tbi_memory.specs.AddressSpace.{check};
+ghost use Rattle.tbi_memory.specs.AddressSpace.{check, read};
 
 /// Births and deaths move no object that was born before and change no tag, so that the number of a value stays, and
 /// registers that have the images of values go on to have them. The function does nothing when it runs.
@@ -64,4 +64,14 @@ pub fn no_fine_access_is_refused()
         → IsSetting setting → IsLaidOut (story_setting setting) w → AreTold objects w.births
         → access_answer objects Free base off count align ≡ Fine
         → IsPassed (free_judged w (number_of w.births base off)) }
+{}
+
+/// In related states the bytes of each fine read or write are mapped in the machine's memory, and are the images of the source's
+/// bytes. The function does nothing when it runs.
+pub fn fine_accesses_read_the_images()
+    ensures { (setting : MachineSetting) (t : ToldShared) (m : MachineShared) (access : Access) (base : Base) (off count align : ℕ)
+        → IsSetting setting → SharedRelated setting t m
+        → access ≢ Free → access_answer t.source.births access base off count align ≡ Fine
+        → read m.memory (number_of t.story.births base off) count
+        ≡ Ok (map (byte_image t.story.births) (bytes_at t.source.births base off count)) }
 {}

@@ -6,6 +6,6 @@
 mod laws;
 
 pub use laws::{
-    checks_find_what_the_story_says, images_stay, no_fine_access_is_refused,
-    register_steps_are_followed,
+    checks_find_what_the_story_says, fine_accesses_read_the_images, images_stay,
+    no_fine_access_is_refused, register_steps_are_followed,
 };
