@@ -1,5 +1,6 @@
 pub mod ArithmeticFollows
 pub mod BranchFollows
+pub mod CheckFollows
 pub mod ChecksAgree
 pub mod CodeAt
 pub mod ComparisonFollows
@@ -8,6 +9,7 @@ pub mod FinePasses
 pub mod FreesAgree
 pub mod Images
 pub mod ListParts
+pub mod LoadFollows
 pub mod ObjectPlaces
 pub mod OperandImages
 pub mod OperandsThere

@@ -25,7 +25,7 @@ use Rattle.simulation.proofs.PointerFollows.{number-modulo, pointer-follows, sta
 use Rattle.simulation.specs.Relation.{IsSetting, SeenLike}
 
 -- a number modulo 2 ^ 64 is that of the offset modulo 2 ^ 64
-offset-modulo : (start off : ℕ) → (start + off) % 2 ^ 64 ≡ (start + off % 2 ^ 64) % 2 ^ 64
+pub offset-modulo : (start off : ℕ) → (start + off) % 2 ^ 64 ≡ (start + off % 2 ^ 64) % 2 ^ 64
 offset-modulo start off = omega arith
 
 module _ (setting : MachineSetting) (t : ToldSeen) (m : MachineSeen) (f : Function) (is : IsSetting setting) (like : SeenLike setting t m) (before : IsBeforeNext setting t m f) (result : Option ℕ) where

@@ -67,7 +67,7 @@ before-next setting t m f inst op at related has =
 -- ---- the step
 
 -- what the source does at an instruction
-source-at : (program : Module) (given : Input) (t : ToldSeen) (f : Function) (inst : Inst) → IsAt program t f inst → source.source_step program given (source_seen t) ≡ source.operation_step program given f (source_seen t) inst.result inst.op
+pub source-at : (program : Module) (given : Input) (t : ToldSeen) (f : Function) (inst : Inst) → IsAt program t f inst → source.source_step program given (source_seen t) ≡ source.operation_step program given f (source_seen t) inst.result inst.op
 unfolding with_named
 source-at program given t f inst at =
     ap (λ o. with_named o (λ g. with_named (slice_get g.insts t.frame.inst) (λ i. source.operation_step program given g (source_seen t) i.result i.op))) at.function

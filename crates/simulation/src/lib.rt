@@ -1,11 +1,12 @@
 //! The simulation on which the detection theorem will rest: a relation between the source run with its story and the machine
-//! that runs the instrumented code, and what the machine does when the source makes a step in related states. Of the steps,
-//! those that read and write registers alone are shown to be followed. Its functions do nothing when they run: they carry the laws.
+//! that runs the instrumented code, and what the machine does when the source makes a step in related states. Shown to be
+//! followed are the steps that read and write registers alone, and the loads of integers. Its functions do nothing when they
+//! run: they carry the laws.
 #![tactic(auto)]
 
 mod laws;
 
 pub use laws::{
     checks_find_what_the_story_says, fine_accesses_read_the_images, images_stay,
-    no_fine_access_is_refused, register_steps_are_followed,
+    loads_of_integers_are_followed, no_fine_access_is_refused, register_steps_are_followed,
 };
