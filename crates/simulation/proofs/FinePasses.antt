@@ -17,7 +17,7 @@ use Rattle.hw_base.specs.declared.accesses.Kind.{Kind}
 use Rattle.hw_base.specs.declared.accesses.Kind.TheVariants.{NoObject}
 use Rattle.hw_base.specs.declared.accesses.Reason.TheVariants.{Misaligned}
 use Rattle.hw_base.specs.declared.pointers.Base.{Base}
-use Rattle.ir_meaning.specs.AccessRule.{Fine, Violates, IsOutside, NoAnswer, AccessBase, OnNull, OnNothing, overflow_kind, dead_answer, inside_answer, living_answer, base_answer, bytes_answer, access_rule, accessed_in, accessed, access_answer}
+use Rattle.ir_meaning.specs.AccessRule.{Violates, IsOutside, NoAnswer, AccessBase, OnNull, OnNothing, overflow_kind, dead_answer, inside_answer, living_answer, base_answer, bytes_answer, access_rule, accessed_in, accessed, access_answer}
 use Rattle.ir_meaning.specs.Births.{Region, Globals, Stack, Heap, Birth, SourceObject, is_living, get_object, bytes_in, region_of}
 use Rattle.tag_story.specs.Judging.{refusing}
 use Rattle.tag_story.proofs.Owners.{covers-true, one-owner}
@@ -28,6 +28,7 @@ use Rattle.simulation.proofs.ChecksAgree.{short-tag}
 use Rattle.simulation.proofs.ComparisonFollows.{size-rounded}
 use Rattle.simulation.proofs.ObjectPlaces.{IsPlacedAs, placed-as, placed-there}
 use Rattle.simulation.specs.Relation.{IsSetting, story_setting}
+use Rattle.simulation.specs.Checks.{lies_inside}
 use Rattle.simulation.specs.Parts.{AreTold}
 use Rattle.simulation.proofs.OwnedGranules.{IsOwner, owner-is}
 
@@ -178,41 +179,41 @@ module _ (setting : MachineSetting) (objects : List Birth) (w : Story) (laid : I
 
 -- ---- fine accesses
 
--- an access to some bytes of an object that is fine lies within the object, which lives
-pub fine-object : (access : Access) (region : Region) (x : SourceObject) (off n align : ℕ) → bytes_answer access (accessed_in region (Some x)) off (suc n) align ≡ Fine → (is_living x.life ≡ true) × (off + suc n ≤ x.size)
+-- an access to some bytes of an object that is fine or writes to a constant lies within the object, which lives
+pub fine-object : (access : Access) (region : Region) (x : SourceObject) (off n align : ℕ) → lies_inside (bytes_answer access (accessed_in region (Some x)) off (suc n) align) ≡ true → (is_living x.life ≡ true) × (off + suc n ≤ x.size)
 fine-object access region x off n align h = by_align (off % align == 0) h
   where
-    is_dead : (r : Region) → dead_answer r ≡ Fine → ⊥
+    is_dead : (r : Region) → lies_inside (dead_answer r) ≡ true → ⊥
     is_dead Globals e = absurd cc
     is_dead (Stack func) e = absurd cc
     is_dead Heap e = absurd cc
 
-    by_size : (fits : Bool) → nat_le (off + suc n) x.size ≡ fits → (if fits then inside_answer access x.constant else Violates (overflow_kind region)) ≡ Fine → off + suc n ≤ x.size
+    by_size : (fits : Bool) → nat_le (off + suc n) x.size ≡ fits → lies_inside (if fits then inside_answer access x.constant else Violates (overflow_kind region)) ≡ true → off + suc n ≤ x.size
     by_size true test e = leb-true (off + suc n) x.size test
     by_size false test e = absurd cc
 
-    by_life : (living : Bool) → is_living x.life ≡ living → (if living then living_answer access (record { region = region; size = x.size; constant = x.constant; living = is_living x.life }) off (suc n) else dead_answer region) ≡ Fine → (is_living x.life ≡ true) × (off + suc n ≤ x.size)
+    by_life : (living : Bool) → is_living x.life ≡ living → lies_inside (if living then living_answer access (record { region = region; size = x.size; constant = x.constant; living = is_living x.life }) off (suc n) else dead_answer region) ≡ true → (is_living x.life ≡ true) × (off + suc n ≤ x.size)
     by_life true alive e = (alive, by_size (nat_le (off + suc n) x.size) refl e)
     by_life false dead e = absurd (is_dead region e)
 
-    by_align : (aligned : Bool) → (if aligned then base_answer access (accessed_in region (Some x)) off (suc n) else IsOutside Misaligned) ≡ Fine → (is_living x.life ≡ true) × (off + suc n ≤ x.size)
+    by_align : (aligned : Bool) → lies_inside (if aligned then base_answer access (accessed_in region (Some x)) off (suc n) else IsOutside Misaligned) ≡ true → (is_living x.life ≡ true) × (off + suc n ≤ x.size)
     by_align true e = by_life (is_living x.life) refl e
     by_align false e = absurd cc
 
 -- an access through a pointer to nothing is never fine
-pub fine-nothing : (access : Access) (base : AccessBase) (off n align : ℕ) → base_answer access base off (suc n) ≡ NoAnswer ⊎ ((kind : Kind) × (base_answer access base off (suc n) ≡ Violates kind)) → bytes_answer access base off (suc n) align ≡ Fine → ⊥
+pub fine-nothing : (access : Access) (base : AccessBase) (off n align : ℕ) → base_answer access base off (suc n) ≡ NoAnswer ⊎ ((kind : Kind) × (base_answer access base off (suc n) ≡ Violates kind)) → lies_inside (bytes_answer access base off (suc n) align) ≡ true → ⊥
 fine-nothing access base off n align none h = by_align (off % align == 0) h none
   where
-    by_align : (aligned : Bool) → (if aligned then base_answer access base off (suc n) else IsOutside Misaligned) ≡ Fine → base_answer access base off (suc n) ≡ NoAnswer ⊎ ((kind : Kind) × (base_answer access base off (suc n) ≡ Violates kind)) → ⊥
-    by_align true e (inl nothing) = let wrong : NoAnswer ≡ Fine = sym nothing ∙ e in absurd cc
-    by_align true e (inr (kind, violates)) = let wrong : Violates kind ≡ Fine = sym violates ∙ e in absurd cc
+    by_align : (aligned : Bool) → lies_inside (if aligned then base_answer access base off (suc n) else IsOutside Misaligned) ≡ true → base_answer access base off (suc n) ≡ NoAnswer ⊎ ((kind : Kind) × (base_answer access base off (suc n) ≡ Violates kind)) → ⊥
+    by_align true e (inl nothing) = let wrong : false ≡ true = ap lies_inside (sym nothing) ∙ e in absurd cc
+    by_align true e (inr (kind, violates)) = let wrong : false ≡ true = ap lies_inside (sym violates) ∙ e in absurd cc
     by_align false e some = absurd cc
 
 module _ (setting : MachineSetting) (objects : List Birth) (w : Story) (is : IsSetting setting) (laid : IsLaidOut (story_setting setting) w) (told : AreTold objects w.births) where
   no-bytes : (number : ℕ) → refusing (story_setting setting) w objects number 0 ≡ None
   no-bytes number = passes-refusing_of (memory_tag (story_setting setting) w) (last_byte w objects) number 0 (λ address from to. absurd (omega (arith, from, to)))
 
-  object-passes : (access : Access) (region : Region) (o : Obj) (found : Option SourceObject) (off n align : ℕ) → get_object objects o ≡ found → bytes_answer access (accessed_in region found) off (suc n) align ≡ Fine → refusing (story_setting setting) w objects (number_of w.births (Object o) off) (suc n) ≡ None
+  object-passes : (access : Access) (region : Region) (o : Obj) (found : Option SourceObject) (off n align : ℕ) → get_object objects o ≡ found → lies_inside (bytes_answer access (accessed_in region found) off (suc n) align) ≡ true → refusing (story_setting setting) w objects (number_of w.births (Object o) off) (suc n) ≡ None
   object-passes access region o None off n align there h = absurd (fine-nothing access OnNothing off n align (inl refl) h)
   object-passes access region o (Some x) off n align there h =
       let fine = fine-object access region x off n align h in
@@ -220,13 +221,13 @@ module _ (setting : MachineSetting) (objects : List Birth) (w : Story) (is : IsS
       inside-passes setting objects w laid o x place (ap is_living (sym place.life) ∙ fine.0) off (suc n)
       (subst (λ size. off + suc n ≤ size) (sym place.size) fine.1)
 
-  bytes-pass : (access : Access) (base : Base) (off count align : ℕ) → bytes_answer access (accessed objects base) off count align ≡ Fine → refusing (story_setting setting) w objects (number_of w.births base off) count ≡ None
+  bytes-pass : (access : Access) (base : Base) (off count align : ℕ) → lies_inside (bytes_answer access (accessed objects base) off count align) ≡ true → refusing (story_setting setting) w objects (number_of w.births base off) count ≡ None
   bytes-pass access base off zero align h = no-bytes (number_of w.births base off)
   bytes-pass access Null off (suc n) align h = absurd (fine-nothing access OnNull off n align (inr (NoObject, refl)) h)
   bytes-pass access (Object o) off (suc n) align h = object-passes access (region_of objects o) o (get_object objects o) off n align refl h
 
-  -- a read or write that is fine passes the tag rule
-  pub fine-passes : (access : Access) (base : Base) (off count align : ℕ) → access ≢ Free → access_answer objects access base off count align ≡ Fine → refusing (story_setting setting) w objects (number_of w.births base off) count ≡ None
+  -- a read or write within a living object passes the tag rule
+  pub fine-passes : (access : Access) (base : Base) (off count align : ℕ) → access ≢ Free → lies_inside (access_answer objects access base off count align) ≡ true → refusing (story_setting setting) w objects (number_of w.births base off) count ≡ None
   unfolding access_rule
   fine-passes Read base off count align other h = bytes-pass Read base off count align h
   fine-passes Write base off count align other h = bytes-pass Write base off count align h

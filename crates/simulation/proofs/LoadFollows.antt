@@ -64,7 +64,7 @@ use Rattle.simulation.proofs.PointerComparisons.{offset-modulo}
 use Rattle.simulation.proofs.ReadImages.{fine-read}
 use Rattle.simulation.proofs.SameMismatches.{shown}
 use Rattle.simulation.proofs.Steps.{added-first}
-use Rattle.simulation.specs.Checks.{FindsJudged}
+use Rattle.simulation.specs.Checks.{FindsJudged, lies_inside}
 use Rattle.simulation.specs.Relation.{IsSetting, SeenLike, SeenRelated, story_setting}
 use Rattle.simulation.specs.RegisterSteps.{IsAt, IsFollowed}
 use Rattle.simulation.proofs.OperandsThere.{operand-of, resolved-at}
@@ -173,7 +173,7 @@ module _ (setting : MachineSetting) (t : ToldSeen) (m : MachineSeen) (f : Functi
       → (answer : AccessAnswer) → access_answer t.shared.source.births Read base off n align ≡ answer → FollowsIn setting t (on_answer (source_seen t) Read base off n answer next) (on_check m (own_site t) Read n number go (check m.shared.memory number n))
   unfolding on_answer all_told judged
   found-follows base off n align number go next pointer follows Fine here =
-      let passes = fine-passes setting t.shared.source.births t.shared.story is like.shared.laid like.shared.told Read base off n align (λ same. absurd cc) here in
+      let passes = fine-passes setting t.shared.source.births t.shared.story is like.shared.laid like.shared.told Read base off n align (λ same. absurd cc) (ap lies_inside here) in
       let none = shown-none (check m.shared.memory number n) (checks-same setting t.shared m.shared like.shared number n ∙ ap shown (ap (λ p. refusing (story_setting setting) t.shared.story t.shared.source.births p n) pointer ∙ passes)) in
       subst (λ found. FollowsIn setting t next (on_check m (own_site t) Read n number go found)) (sym none) (follows here)
   found-follows base off n align number go next pointer follows (Violates kind) here =

@@ -20,6 +20,7 @@ use Rattle.simulation.proofs.ComparisonFollows.{size-rounded}
 use Rattle.simulation.proofs.FinePasses.{fine-object, fine-nothing}
 use Rattle.simulation.proofs.ListParts.{get-take, get-drop, get-map, length-part}
 use Rattle.simulation.proofs.ObjectPlaces.{IsPlacedAs, placed-as, placed-there}
+use Rattle.simulation.specs.Checks.{lies_inside}
 use Rattle.simulation.specs.Relation.{IsSetting, SharedRelated}
 
 module _ (setting : MachineSetting) (t : ToldShared) (m : MachineShared) (is : IsSetting setting) (related : SharedRelated setting t m) where
@@ -61,14 +62,14 @@ module _ (setting : MachineSetting) (t : ToldShared) (m : MachineShared) (is : I
           ∙ ap (λ n. Some n) image
 
   object-read : (access : Access) (o : Obj) (found : Option SourceObject) (off n align : ℕ) → get_object t.source.births o ≡ found → bytes_answer access (accessed_in (region_of t.source.births o) found) off (suc n) align ≡ Fine → read m.memory (number_of t.story.births (Object o) off) (suc n) ≡ Ok (images (Object o) off (suc n))
-  object-read access o None off n align there h = absurd (fine-nothing access OnNothing off n align (inl refl) h)
+  object-read access o None off n align there h = absurd (fine-nothing access OnNothing off n align (inl refl) (ap lies_inside h))
   object-read access o (Some x) off n align there h =
-      let fine = fine-object access (region_of t.source.births o) x off n align h in
+      let fine = fine-object access (region_of t.source.births o) x off n align (ap lies_inside h) in
       inside-read o x off (suc n) there fine.0 fine.1 (placed-as setting t.source.births t.story o x is related.laid related.told there)
 
   bytes-read : (access : Access) (base : Base) (off count align : ℕ) → bytes_answer access (accessed t.source.births base) off count align ≡ Fine → read m.memory (number_of t.story.births base off) count ≡ Ok (images base off count)
   bytes-read access base off zero align h = nothing-read (number_of t.story.births base off) base off
-  bytes-read access Null off (suc n) align h = absurd (fine-nothing access OnNull off n align (inr (NoObject, refl)) h)
+  bytes-read access Null off (suc n) align h = absurd (fine-nothing access OnNull off n align (inr (NoObject, refl)) (ap lies_inside h))
   bytes-read access (Object o) off (suc n) align h = object-read access o (get_object t.source.births o) off n align refl h
 
   -- the bytes of a fine read or write are mapped, and read as the images of the source's

@@ -1,6 +1,7 @@
 -- What a check of the machine finds, beside what the story says of the same access or free.
-use Rattle.std.specs.Prelude.{◌≡◌, Option, Some, None}
+use Rattle.std.specs.Prelude.{◌≡◌, Bool, true, false, Option, Some, None}
 use Rattle.ir_machine.specs.declared.found.Found.{Found}
+use Rattle.ir_meaning.specs.AccessRule.{AccessAnswer, Fine, Violates, WritesConstant, IsOutside, NoAnswer}
 use Rattle.tag_story.specs.declared.judgement.Coincidence.{Coincidence}
 use Rattle.tag_story.specs.declared.judgement.Judgement.{Judgement}
 use Rattle.tag_story.specs.declared.judgement.Judgement.TheVariants.{Passes, Refused}
@@ -14,3 +15,11 @@ FindsJudged (Refused refused) found = (one : Found) × ((found ≡ Some one) × 
 -- the story says that it passes
 abbrev pub IsPassed : Judgement → Type 0
 IsPassed judgement = (coincidence : Coincidence) × (judgement ≡ Passes coincidence)
+
+-- what the access rule says lies within a living object: it is fine, or a write to a constant, which is a trap
+abbrev pub lies_inside : AccessAnswer → Bool
+lies_inside Fine = true
+lies_inside WritesConstant = true
+lies_inside (Violates kind) = false
+lies_inside (IsOutside reason) = false
+lies_inside NoAnswer = false

@@ -15,7 +15,7 @@ ghost use Rattle.ir_meaning.specs.Births.{Birth, bytes_at};
 ghost use Rattle.ir_meaning.specs.State.{News};
 ghost use Rattle.ir_meaning.specs.Values.{Value};
 ghost use Rattle.simulation.specs.RegisterSteps.{IsAt, IsFollowed, is_register_step};
-ghost use Rattle.simulation.specs.Checks.{FindsJudged, IsPassed};
+ghost use Rattle.simulation.specs.Checks.{FindsJudged, IsPassed, lies_inside};
 ghost use Rattle.simulation.specs.Images.{Stays};
 ghost use Rattle.simulation.specs.Parts.{AreTold, HasRegisters, IsKnownValue};
 ghost use Rattle.simulation.specs.Relation.{IsSetting, SeenRelated, SharedRelated, story_setting};
@@ -58,11 +58,12 @@ pub fn checks_find_what_the_story_says()
 {}
 
 /// The tag rule passes each access that the access rule finds fine, on the places and tags of the story, with any tag words:
-/// nothing refuses a read or a write, and a free passes. The function does nothing when it runs.
+/// nothing refuses a read or a write within a living object, a write to a constant included, and a fine free passes. The
+/// function does nothing when it runs.
 pub fn no_fine_access_is_refused()
     ensures accesses { (setting : MachineSetting) (objects : List Birth) (w : Story) (access : Access) (base : Base) (off count align : ℕ)
         → IsSetting setting → IsLaidOut (story_setting setting) w → AreTold objects w.births
-        → access ≢ Free → access_answer objects access base off count align ≡ Fine
+        → access ≢ Free → lies_inside (access_answer objects access base off count align) ≡ true
         → refusing (story_setting setting) w objects (number_of w.births base off) count ≡ None }
     ensures frees { (setting : MachineSetting) (objects : List Birth) (w : Story) (base : Base) (off count align : ℕ)
         → IsSetting setting → IsLaidOut (story_setting setting) w → AreTold objects w.births
