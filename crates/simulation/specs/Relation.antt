@@ -29,7 +29,7 @@ use Rattle.simulation.specs.Parts.{AreTold, AreKnownBytes, HasTags, HasBytes, Is
 abbrev pub story_setting : MachineSetting → StorySetting
 story_setting setting = record { places = setting.places; program = setting.program; word = setting.word }
 
--- the machine runs the module's own code, on a map with the bounds that the source has
+-- the machine runs the module's own code, on a map that ends below 2 ^ 56 and has the bounds that the source has
 pub record IsSetting (setting : MachineSetting) : Type 0 where
   pub runnable : IsRunnable setting.program
   pub code : setting.code ≡ instrumented setting.program
