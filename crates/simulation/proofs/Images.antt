@@ -63,7 +63,7 @@ known-stays before after (Address base off) stays known = known_base-stays befor
 known-stays before after (IntegerAndBit n bit) stays known = tt
 
 pub known_byte-stays : (before after : List StoryBirth) (b : SourceByte) → Stays before after → IsKnownByte before b → IsKnownByte after b
-known_byte-stays before after (Data n) stays known = tt
+known_byte-stays before after (Data n) stays known = known
 known_byte-stays before after (Piece o off j) stays known = born-stays before after o stays known
 
 -- registers stay related

@@ -38,7 +38,7 @@ pub record AreTold (births : List Birth) (told : List StoryBirth) : Type 0 where
 abbrev pub IsBorn : List StoryBirth → Obj → Type 0
 IsBorn births o = (x : Placed) × (get_placed births o ≡ Some x)
 
--- a value, or a byte, names an object that was born
+-- a value names an object that was born
 abbrev pub IsKnownBase : List StoryBirth → Base → Type 0
 IsKnownBase births Null = Unit {0}
 IsKnownBase births (Object o) = IsBorn births o
@@ -48,8 +48,9 @@ IsKnownValue births (Integer n) = Unit {0}
 IsKnownValue births (Address base off) = IsKnownBase births base
 IsKnownValue births (IntegerAndBit n bit) = Unit {0}
 
+-- a byte is a number below 256, or a piece of a pointer into an object that was born
 abbrev pub IsKnownByte : List StoryBirth → SourceByte → Type 0
-IsKnownByte births (Data n) = Unit {0}
+IsKnownByte births (Data n) = n < 256
 IsKnownByte births (Piece o off j) = IsBorn births o
 
 abbrev pub AreKnownBytes : List Birth → List StoryBirth → Type 0
