@@ -16,8 +16,10 @@ pub mod OperandsThere
 pub mod OwnedGranules
 pub mod PlacesTold
 pub mod PlainSteps
+pub mod PointerBytes
 pub mod PointerComparisons
 pub mod PointerFollows
+pub mod PointerLoads
 pub mod ReadImages
 pub mod RegisterImages
 pub mod RegisterSteps

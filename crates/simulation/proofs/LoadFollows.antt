@@ -16,7 +16,8 @@ use Rattle.ir_core.specs.declared.operands.Placed.{Placed}
 use Rattle.ir_core.specs.declared.operations.Op.TheVariants as op
 use Rattle.ir_core.specs.declared.ir_module.Function.{Function}
 use Rattle.ir_core.specs.declared.ir_module.Inst.{Inst}
-use Rattle.ir_core.specs.declared.types.IrType.TheVariants.{Void, Int}
+use Rattle.ir_core.specs.declared.types.IrType.{IrType}
+use Rattle.ir_core.specs.declared.types.IrType.TheVariants.{Void, Int, Ptr}
 use Rattle.ir_machine.proofs.CodeAt.{place-next}
 use Rattle.ir_machine.proofs.BlockPlaces.{all-at}
 use Rattle.ir_machine.specs.CallSteps.{instruction_at}
@@ -45,7 +46,7 @@ use Rattle.mi_code.specs.Widths.{width_of_type}
 use Rattle.mi_code.specs.TagChecks.{check_of, added_code}
 use Rattle.mi_code.specs.declared.code_functions.Mark.TheVariants.{Added, Source}
 use Rattle.mi_code.specs.declared.operands.MiOperand.{MiOperand}
-use Rattle.mi_code.specs.declared.operands.Width.TheVariants.{Int as WidthOf}
+use Rattle.mi_code.specs.declared.operands.Width.TheVariants.{Int as WidthOf, Ptr as AddressWidth}
 use Rattle.mi_code.specs.declared.operations.MiOp.{MiOp}
 use Rattle.mi_code.specs.declared.operations.MiOp.TheVariants.{Load}
 use Rattle.tag_story.specs.Judging.{judged, access_judged, refusing}
@@ -66,15 +67,14 @@ use Rattle.simulation.proofs.SameMismatches.{shown}
 use Rattle.simulation.proofs.Steps.{added-first}
 use Rattle.simulation.specs.Checks.{FindsJudged, lies_inside}
 use Rattle.simulation.specs.Relation.{IsSetting, SeenLike, SeenRelated, story_setting}
-use Rattle.simulation.specs.RegisterSteps.{IsAt, IsFollowed}
+use Rattle.simulation.specs.RegisterSteps.{IsAt}
 use Rattle.simulation.proofs.OperandsThere.{operand-of, resolved-at}
 use Rattle.simulation.proofs.RegisterSteps.{source-at}
-use Rattle.hw_tags.specs.InputState.{next_input}
 
 -- ---- values
 
 -- the images of bytes that are numbers are these numbers
-data-images : (births : List StoryBirth) (bytes : List SourceByte) (ns : List ℕ) → data_numbers bytes ≡ Some ns → map (byte_image births) bytes ≡ ns
+pub data-images : (births : List StoryBirth) (bytes : List SourceByte) (ns : List ℕ) → data_numbers bytes ≡ Some ns → map (byte_image births) bytes ≡ ns
 unfolding data_numbers
 data-images births [] ns h = cc
 data-images births (Data n ∷ bytes) ns h = by_rest (data_numbers bytes) refl h (λ rest e. data-images births bytes rest e)
@@ -91,13 +91,13 @@ shown-none (Some mismatch) h = absurd cc
 
 module _ (setting : MachineSetting) (t : ToldSeen) (m : MachineSeen) (f : Function) (is : IsSetting setting) (like : SeenLike setting t m) where
   -- the pointer that the machine's operand is
-  pointer-is : (x : MiOperand) (base : Base) (off : ℕ) → machine_number m x ≡ number_of t.shared.story.births base off → pointer_in m x ≡ number_of t.shared.story.births base (off % 2 ^ 64)
+  pub pointer-is : (x : MiOperand) (base : Base) (off : ℕ) → machine_number m x ≡ number_of t.shared.story.births base off → pointer_in m x ≡ number_of t.shared.story.births base (off % 2 ^ 64)
   pointer-is x base off same =
       ap (λ n. n % 2 ^ 64) same ∙ number-modulo t.shared.story.births base off ∙ offset-modulo _ off
       ∙ sym (number-is t.shared.story.births base (off % 2 ^ 64) (let small : off % 2 ^ 64 < 2 ^ 64 = omega arith in small))
 
   -- after a check the machine is as it was, at the next place
-  advanced-like : SeenLike setting t (advanced m)
+  pub advanced-like : SeenLike setting t (advanced m)
   advanced-like =
       record {
         shared = like.shared;
@@ -184,7 +184,7 @@ module _ (setting : MachineSetting) (t : ToldSeen) (m : MachineSeen) (f : Functi
   found-follows base off n align number go next pointer follows NoAnswer here = tt
 
   -- a read through a pointer: the check reports it as the story says, or the machine goes on
-  read-checked : (given : Input) (base : Base) (off n align : ℕ) (x : MiOperand) (go : MachineSeen → MachineOutcome) (next : SourceOutcome) → 1 ≤ n → n < 2 ^ 64 → is_alignment align ≡ true → pointer_in m x ≡ number_of t.shared.story.births base off
+  pub read-checked : (given : Input) (base : Base) (off n align : ℕ) (x : MiOperand) (go : MachineSeen → MachineOutcome) (next : SourceOutcome) → 1 ≤ n → n < 2 ^ 64 → is_alignment align ≡ true → pointer_in m x ≡ number_of t.shared.story.births base off
       → (access_answer t.shared.source.births Read base off n align ≡ Fine → FollowsIn setting t next (go (advanced m)))
       → FollowsIn setting t (on_access (source_seen t) Read base off n align next) (machine.operation_step setting given (own_site t) go m (check_of n align x Read))
   unfolding on_answer all_told
@@ -208,21 +208,21 @@ module _ (setting : MachineSetting) (given : Input) (t : ToldSeen) (m : MachineS
     pub code : code_of_instruction setting.program f (own_site t) inst ≡ record { mark = Added (own_site t); op = added } ∷ record { mark = Source (own_site t); op = op } ∷ []
     pub two : instruction_length setting.program f.allocas inst ≡ 2
 
-  added-there : (added op : MiOp) → HasCheckedCode added op → instruction_at setting.code m.frame ≡ Some (record { mark = Added (own_site t); op = added })
+  pub added-there : (added op : MiOp) → HasCheckedCode added op → instruction_at setting.code m.frame ≡ Some (record { mark = Added (own_site t); op = added })
   added-there added op has =
       ap (λ code. instruction_at code m.frame) is.code
       ∙ at-frame setting.program t.frame.func f m.frame (place_of setting.program f t.frame.inst + 0) (record { mark = Added (own_site t); op = added }) at.function related.like.frame.func
       (related.place f at.function ∙ (let e : place_of setting.program f t.frame.inst ≡ place_of setting.program f t.frame.inst + 0 = omega arith in e))
       (instruction-get setting.program f t.frame.func t.frame.inst 0 inst _ at.instruction (ap (λ xs. slice_get xs 0) has.code))
 
-  source-there : (added op : MiOp) → HasCheckedCode added op → instruction_at setting.code (advanced m).frame ≡ Some (record { mark = Source (own_site t); op = op })
+  pub source-there : (added op : MiOp) → HasCheckedCode added op → instruction_at setting.code (advanced m).frame ≡ Some (record { mark = Source (own_site t); op = op })
   source-there added op has =
       ap (λ code. instruction_at code (advanced m).frame) is.code
       ∙ at-frame setting.program t.frame.func f (advanced m).frame (place_of setting.program f t.frame.inst + 1) (record { mark = Source (own_site t); op = op }) at.function related.like.frame.func
       (ap (λ n. n + 1) (related.place f at.function))
       (instruction-get setting.program f t.frame.func t.frame.inst 1 inst _ at.instruction (ap (λ xs. slice_get xs 1) has.code))
 
-  before-next : (added op : MiOp) → HasCheckedCode added op → IsBeforeNext setting t (advanced m) f
+  pub before-next : (added op : MiOp) → HasCheckedCode added op → IsBeforeNext setting t (advanced m) f
   before-next added op has =
       (at.function, let here = related.place f at.function in let next = place-next setting.program f t.frame.inst inst at.instruction in let two = has.two in let after : t.frame.inst + 1 ≡ suc t.frame.inst = omega arith in let same = ap (place_of setting.program f) after in omega (arith, here, next, two, same))
 
@@ -241,21 +241,27 @@ module _ (setting : MachineSetting) (given : Input) (t : ToldSeen) (m : MachineS
       subst (λ r. FollowsIn setting t (on_integer (source_seen t) (int_from width (bytes_at t.shared.source.births base (off % 2 ^ 64) (int_store_size width))) (λ n. gives (source_seen t) inst.result (Integer n))) r) (sym load)
       (integer-read setting t m f is related.like width base (off % 2 ^ 64) align x inst.result (before-next _ _ has) pointer fine))))
 
-  -- its code
-  load-code : (ty width align : ℕ) (place : Placed) → inst.op ≡ op.Load ty place align → type_of setting.program ty ≡ Int width → HasCheckedCode (check_of (int_store_size width) align (operand_of place) Read) (Load (WidthOf width) (result_register f inst.result) (operand_of place))
+  -- the code of a load of a type
+  typed-code : (ty align : ℕ) (place : Placed) (type : IrType) → inst.op ≡ op.Load ty place align → type_of setting.program ty ≡ type → HasCheckedCode (check_of (access_size type) align (operand_of place) Read) (Load (width_of_type type) (result_register f inst.result) (operand_of place))
   unfolding code_of_instruction
-  load-code ty width align place same typed =
+  typed-code ty align place type same typed =
       record {
         code =
             ap (λ o. map (added_mi (own_site t)) (added_code setting.program f.allocas o) ++ source_mi (own_site t) (source_code setting.program f (starts_of setting.program f) (block_holding f.blocks t.frame.inst) inst.result o)) same
-            ∙ ap (λ type. record { mark = Added (own_site t); op = check_of (access_size type) align (operand_of place) Read } ∷ record { mark = Source (own_site t); op = Load (width_of_type type) (result_register f inst.result) (operand_of place) } ∷ []) typed;
+            ∙ ap (λ y. record { mark = Added (own_site t); op = check_of (access_size y) align (operand_of place) Read } ∷ record { mark = Source (own_site t); op = Load (width_of_type y) (result_register f inst.result) (operand_of place) } ∷ []) typed;
         two = ap (λ o. length (added_code setting.program f.allocas o) + own_length o) same;
       }
+
+  load-code : (ty width align : ℕ) (place : Placed) → inst.op ≡ op.Load ty place align → type_of setting.program ty ≡ Int width → HasCheckedCode (check_of (int_store_size width) align (operand_of place) Read) (Load (WidthOf width) (result_register f inst.result) (operand_of place))
+  load-code ty width align place same typed = typed-code ty align place (Int width) same typed
+
+  pub pointer-code : (ty align : ℕ) (place : Placed) → inst.op ≡ op.Load ty place align → type_of setting.program ty ≡ Ptr → HasCheckedCode (check_of 8 align (operand_of place) Read) (Load AddressWidth (result_register f inst.result) (operand_of place))
+  pointer-code ty align place same typed = typed-code ty align place Ptr same typed
 
   width-is : (ty width : ℕ) → ty < length setting.program.types → type_of setting.program ty ≡ Int width → IsWidth width
   width-is ty width below typed = subst (IsResolvedType setting.program) typed (is.runnable.resolved.outside.types ty Void below)
 
-  runnable-here : IsRunnableOp setting.program inst.op
+  pub runnable-here : IsRunnableOp setting.program inst.op
   runnable-here =
       all-at (λ (x : Inst). IsRunnableOp setting.program x.op) f.insts t.frame.inst inst
       (all-at (IsRunnableFunction setting.program) setting.program.functions t.frame.func f is.runnable.functions at.function).instructions at.instruction
@@ -268,8 +274,3 @@ module _ (setting : MachineSetting) (given : Input) (t : ToldSeen) (m : MachineS
       subst (λ outcome. FollowsIn setting t outcome (machine.machine_step setting given m))
       (sym (source-at setting.program given t f inst at ∙ ap (λ o. source_operation setting.program given f (source_seen t) inst.result o) same ∙ ap (λ type. source.load_step (source_seen t) inst.result type align (value_of setting.program (source_seen t) place)) typed))
       (integer-loaded width align (value_of setting.program (source_seen t) place) (operand_of place) few.some few.most access.alignment (operand-of setting t m f place related.like resolved.1) (load-code ty width align place same typed))
-
--- the machine follows each load of an integer
-pub load-followed : (setting : MachineSetting) (t : ToldSeen) (m : MachineSeen) (f : Function) (inst : Inst) (ty width align : ℕ) (place : Placed) → IsSetting setting → IsAt setting.program t f inst → inst.op ≡ op.Load ty place align → type_of setting.program ty ≡ Int width → SeenRelated setting t m → IsFollowed setting t m
-load-followed setting t m f inst ty width align place is at same typed related input =
-    integer-load setting (next_input input t.shared.source.input) t m f inst is at related ty width align place same typed

@@ -4,10 +4,8 @@ ghost use Rattle.hw_base.specs.declared.accesses.Access.TheVariants.{Free};
 ghost use Rattle.hw_base.specs.declared.pointers.Base.{Base};
 ghost use Rattle.ir_core.specs.declared.ir_module.Function.{Function};
 ghost use Rattle.ir_core.specs.declared.ir_module.Inst.{Inst};
-ghost use Rattle.ir_core.specs.NumberTypes.{type_of};
 ghost use Rattle.ir_core.specs.declared.operands.Placed.{Placed};
 ghost use Rattle.ir_core.specs.declared.operations.Op.TheVariants.{Load};
-ghost use Rattle.ir_core.specs.declared.types.IrType.TheVariants.{Int};
 ghost use Rattle.ir_machine.specs.State.{MachineSeen, MachineSetting, MachineShared};
 ghost use Rattle.ir_machine.specs.declared.found.Found.TheVariants.{Block, Memory};
 ghost use Rattle.ir_meaning.specs.AccessRule.{Fine, access_answer};
@@ -81,12 +79,12 @@ pub fn fine_accesses_read_the_images()
         ≡ Ok (map (byte_image t.story.births) (bytes_at t.source.births base off count)) }
 {}
 
-/// In related states the machine follows each load of an integer, with the check before it: if the access rule finds the load fine,
-/// nothing is reported, and the register gets the same number; at a violation the machine reports it, with its pointer, task,
-/// step and chain, if the tag rule refuses it. Of a load outside the profile nothing is said, nor of what follows a
-/// violation that passes. The function does nothing when it runs.
-pub fn loads_of_integers_are_followed()
-    ensures { (setting : MachineSetting) (t : ToldSeen) (m : MachineSeen) (f : Function) (inst : Inst) (ty width align : ℕ) (at : Placed)
-        → IsSetting setting → IsAt setting.program t f inst → inst.op ≡ Load ty at align → type_of setting.program ty ≡ Int width
+/// In related states the machine follows each load, of an integer or a pointer, with the check before it: if the access rule finds
+/// the load fine, nothing is reported, and the register gets the image of the same value; at a violation the machine reports
+/// it, with its pointer, task, step and chain, if the tag rule refuses it. Of a load outside the profile nothing is said, nor of
+/// what follows a violation that passes. The function does nothing when it runs.
+pub fn loads_are_followed()
+    ensures { (setting : MachineSetting) (t : ToldSeen) (m : MachineSeen) (f : Function) (inst : Inst) (ty align : ℕ) (at : Placed)
+        → IsSetting setting → IsAt setting.program t f inst → inst.op ≡ Load ty at align
         → SeenRelated setting t m → IsFollowed setting t m }
 {}

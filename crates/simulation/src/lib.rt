@@ -1,6 +1,6 @@
 //! The simulation on which the detection theorem will rest: a relation between the source run with its story and the machine
 //! that runs the instrumented code, and what the machine does when the source makes a step in related states. Shown to be
-//! followed are the steps that read and write registers alone, and the loads of integers. Its functions do nothing when they
+//! followed are the steps that read and write registers alone, and loads. Its functions do nothing when they
 //! run: they carry the laws.
 #![tactic(auto)]
 
@@ -8,5 +8,5 @@ mod laws;
 
 pub use laws::{
     checks_find_what_the_story_says, fine_accesses_read_the_images, images_stay,
-    loads_of_integers_are_followed, no_fine_access_is_refused, register_steps_are_followed,
+    loads_are_followed, no_fine_access_is_refused, register_steps_are_followed,
 };
