@@ -1,5 +1,5 @@
 -- The machine follows comparisons of pointers: wherever the source has an answer, the numbers of the pointers have the same.
-use Rattle.std.proofs.Common.{◌≡◌, ℕ, zero, suc, ◌+◌, ◌-◌, ◌*◌, ◌%◌, ◌^◌, ◌<◌, ◌≤◌, ◌==◌, ◌&&◌, Bool, true, false, not, nat_lt, nat_le, leb, eqb, max, if◌then◌else◌, slice_get, Option, Some, None, option_map, refl, sym, ◌∙◌, ap, subst, inl, inr, arith, pos, negsuc, int_lt, int_le}
+use Rattle.std.proofs.Common.{◌≡◌, List, ℕ, zero, suc, ◌+◌, ◌-◌, ◌*◌, ◌%◌, ◌^◌, ◌<◌, ◌≤◌, ◌==◌, ◌&&◌, Bool, true, false, not, nat_lt, nat_le, leb, eqb, max, if◌then◌else◌, slice_get, Option, Some, None, option_map, refl, sym, ◌∙◌, ap, subst, inl, inr, arith, pos, negsuc, int_lt, int_le}
 use Rattle.std.proofs.lemmas.Bool.{le-leb, leb-true, eq-eqb, eqb-true}
 use Rattle.std.proofs.lemmas.Bool.{cases_lt}
 use Rattle.std.proofs.lemmas.Bool.Decides.{leb_tells, eqb_tells}
@@ -16,7 +16,7 @@ use Rattle.ir_machine.specs.State.{MachineSetting}
 use Rattle.ir_meaning.specs.Births.{SourceObject, is_living, get_object}
 use Rattle.ir_meaning.specs.Encoding.{same_object}
 use Rattle.ir_meaning.specs.PointerComparison.{null_equal, is_within, objects_equal, pointers_equal, unsigned_code, offsets_ordered, pointers_ordered, pointers_compared}
-use Rattle.tag_story.specs.Story.{Placed, placed_in}
+use Rattle.tag_story.specs.Story.{StoryBirth, get_placed, Placed, placed_in}
 use Rattle.tag_story.specs.StoryFacts.{AreApart, IsLaidOut}
 use Rattle.tag_story.specs.ToldRun.{ToldShared}
 use Rattle.simulation.proofs.ObjectPlaces.{IsPlacedAs, placed-as, placed-there}
@@ -110,6 +110,14 @@ pub if-some : {X : Type 0} (bit : Bool) (x y : X) → (if bit then Some x else N
 if-some true x y h = (refl, let same : x ≡ y = cc in same)
 if-some false x y h = absurd cc
 
+-- the same object has the same place
+pub same-placed : (births : List StoryBirth) (o p : Obj) → same_object o p ≡ true → get_placed births p ≡ get_placed births o
+same-placed births o p h =
+    let tests = both (o.birth == p.birth) (o.index == p.index) h in
+    let birth = eqb-true o.birth p.birth tests.0 in
+    let index = eqb-true o.index p.index tests.1 in
+    ap (λ n. placed_in (slice_get births n) p.index) (sym birth) ∙ ap (λ n. placed_in (slice_get births o.birth) n) (sym index)
+
 module _ (setting : MachineSetting) (t : ToldShared) (is : IsSetting setting) (laid : IsLaidOut (story_setting setting) t.story) (told : AreTold t.source.births t.story.births) where
   at : (o : Obj) (x : SourceObject) → get_object t.source.births o ≡ Some x → IsPlacedAs t.story o x
   at o x found = placed-as setting t.source.births t.story o x is laid told found
@@ -142,11 +150,7 @@ module _ (setting : MachineSetting) (t : ToldShared) (is : IsSetting setting) (l
   -- ---- two objects
 
   same-start : (o p : Obj) → same_object o p ≡ true → start_of t.story.births (Object p) ≡ start_of t.story.births (Object o)
-  same-start o p h =
-      let tests = both (o.birth == p.birth) (o.index == p.index) h in
-      let birth = eqb-true o.birth p.birth tests.0 in
-      let index = eqb-true o.index p.index tests.1 in
-      ap (λ n. start_in (placed_in (slice_get t.story.births n) p.index)) (sym birth) ∙ ap (λ n. start_in (placed_in (slice_get t.story.births o.birth) n)) (sym index)
+  same-start o p h = ap start_in (same-placed t.story.births o p h)
 
   apart-numbers : (x y : Placed) (a b : ℕ) → AreApart x y → a < max x.size 1 → b < max y.size 1 → x.tag < 256 → y.tag < 256 → x.at + rounded_size x.size < 2 ^ 56 → y.at + rounded_size y.size < 2 ^ 56 → (x.tag * 2 ^ 56 + x.at + a) % 2 ^ 64 ≡ (y.tag * 2 ^ 56 + y.at + b) % 2 ^ 64 → ⊥
   apart-numbers x y a b apart inside also tag other high above same =

@@ -47,26 +47,6 @@ abbrev pub IsBeforeNext : MachineSetting → ToldSeen → MachineSeen → Functi
 IsBeforeNext setting t m f =
     (slice_get setting.program.functions t.frame.func ≡ Some f) × (m.frame.place + 1 ≡ place_of setting.program f (t.frame.inst + 1))
 
-pub moved-related : (setting : MachineSetting) (t : ToldSeen) (m : MachineSeen) (f : Function) (values : List (Option Value)) (numbers : List ℕ) → SeenLike setting t m → IsBeforeNext setting t m f → length values ≡ length t.frame.registers → HasRegisters t.shared.story.births values numbers → SeenRelated setting (source_moved t values) (machine_moved m numbers)
-moved-related setting t m f values numbers like before count has =
-    record {
-      like = record {
-        shared = like.shared;
-        task = like.task;
-        frame = record {
-          func = like.frame.func;
-          sized = λ g h. count ∙ like.frame.sized g h;
-          registers = has;
-          chain = like.frame.chain;
-        };
-        callers = like.callers;
-        owned = like.owned;
-        finished = like.finished;
-        step = like.step;
-      };
-      place = λ g h. before.1 ∙ ap (λ (k : Function). place_of setting.program k (t.frame.inst + 1)) (same-function setting.program t.frame.func f g before.0 h);
-    }
-
 -- the source goes on at another instruction, and the machine at its place
 pub at-related : (setting : MachineSetting) (t : ToldSeen) (m : MachineSeen) (f : Function) (values : List (Option Value)) (inst : ℕ) (frame : Frame) → SeenLike setting t m → slice_get setting.program.functions t.frame.func ≡ Some f → length values ≡ length t.frame.registers → HasRegisters t.shared.story.births values frame.registers → frame.func ≡ m.frame.func → frame.chain ≡ m.frame.chain → frame.place ≡ place_of setting.program f inst → SeenRelated setting (record t { frame = record t.frame { registers = values; inst = inst } }) (record m { frame = frame })
 at-related setting t m f values inst frame like there count has func chain place =
@@ -87,6 +67,11 @@ at-related setting t m f values inst frame like there count has func chain place
       };
       place = λ g h. place ∙ ap (λ (k : Function). place_of setting.program k inst) (same-function setting.program t.frame.func f g there h);
     }
+
+-- both go on at the next instruction
+pub moved-related : (setting : MachineSetting) (t : ToldSeen) (m : MachineSeen) (f : Function) (values : List (Option Value)) (numbers : List ℕ) → SeenLike setting t m → IsBeforeNext setting t m f → length values ≡ length t.frame.registers → HasRegisters t.shared.story.births values numbers → SeenRelated setting (source_moved t values) (machine_moved m numbers)
+moved-related setting t m f values numbers like before count has =
+    at-related setting t m f values (t.frame.inst + 1) (record m.frame { registers = numbers; place = m.frame.place + 1 }) like before.0 count has refl refl before.1
 
 -- nothing is given
 pub goes_on-follows : (setting : MachineSetting) (t : ToldSeen) (m : MachineSeen) (f : Function) → SeenLike setting t m → IsBeforeNext setting t m f → FollowsIn setting t (source.goes_on (source_seen t) nothing_happened) (machine.goes_on m)

@@ -7,8 +7,8 @@ use Rattle.hw_base.specs.declared.pointers.Base.TheVariants.{Null, Object}
 use Rattle.hw_base.specs.declared.pointers.Obj.{Obj}
 use Rattle.ir_meaning.specs.Encoding.{data_numbers, are_pieces, same_object, pointer_from}
 use Rattle.ir_meaning.specs.Values.{Value, Address, SourceByte, Data, Piece}
-use Rattle.tag_story.specs.Story.{Placed, StoryBirth, placed_in, get_placed, number_in, number_of, value_image, byte_image}
-use Rattle.simulation.proofs.ComparisonFollows.{both}
+use Rattle.tag_story.specs.Story.{Placed, StoryBirth, get_placed, number_in, number_of, value_image, byte_image}
+use Rattle.simulation.proofs.ComparisonFollows.{both, same-placed}
 use Rattle.simulation.proofs.LoadFollows.{data-images}
 use Rattle.simulation.proofs.RegisterImages.{IsSingle}
 use Rattle.simulation.specs.Parts.{IsKnownValue, IsKnownByte}
@@ -52,13 +52,6 @@ next-shifted : (j n : ℕ) → shifted (suc j) n ≡ shifted j n / 256
 unfolding shifted
 next-shifted zero n = refl
 next-shifted (suc j) n = next-shifted j (n / 256)
-
-same-placed : (births : List StoryBirth) (o p : Obj) → same_object o p ≡ true → get_placed births p ≡ get_placed births o
-same-placed births o p h =
-    let tests = both (o.birth == p.birth) (o.index == p.index) h in
-    let birth = eqb-true o.birth p.birth tests.0 in
-    let index = eqb-true o.index p.index tests.1 in
-    ap (λ n. placed_in (slice_get births n) p.index) (sym birth) ∙ ap (λ n. placed_in (slice_get births o.birth) n) (sym index)
 
 -- a piece of this pointer
 record IsPieceOf (births : List StoryBirth) (o : Obj) (off j : ℕ) (q : Obj) (at i : ℕ) (bytes : List SourceByte) : Type 0 where
