@@ -1,4 +1,6 @@
 pub mod Bounds
 pub mod ChainLemmas
+pub mod Endings
 pub mod Index
+pub mod ScopeChains
 pub mod Values

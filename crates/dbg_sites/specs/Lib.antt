@@ -1,2 +1,3 @@
 pub mod ChainTable
+pub mod Cycles
 pub mod Read

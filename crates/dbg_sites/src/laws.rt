@@ -1,6 +1,9 @@
 ghost use Rattle.dbg_sites.specs.ChainTable.{ChainEntry, IsChainTable, chain_of, pushed};
 ghost use Rattle.hw_base.specs.declared.pointers.Site.{Site};
-ghost use Rattle.std.specs.Prelude.{◌≡◌, ℕ, ◌≤◌, List, [], ◌∷◌, length};
+ghost use Rattle.std.specs.Prelude.{◌≡◌, ℕ, ◌<◌, ◌≤◌, List, [], ◌∷◌, length, All, Some, true};
+ghost use Rattle.ir_core.specs.declared.meta.Node.{Node};
+ghost use Rattle.ir_core.specs.Scopes.{scopes_end, calls_end};
+ghost use Rattle.ir_grammar.specs.DebugNodes.{IsResolved};
 
 /// A site put in front of a chain gives the number of that chain, and all earlier numbers keep their chains.
 pub fn pushing_puts_a_site_in_front()
@@ -18,4 +21,13 @@ pub fn pushing_puts_a_site_in_front()
 pub fn equal_numbers_are_equal_chains()
     ensures { (table : List ChainEntry) (number other : ℕ) → IsChainTable table → number ≤ length table → other ≤ length table
         → chain_of table number ≡ chain_of table other → number ≡ other }
+{}
+
+/// A chain of scopes, or of inlined calls, that ends after any number of steps ends within as many steps as there are nodes. So
+/// one that doesn't never ends.
+pub fn chains_end_within_the_nodes()
+    ensures scopes { (nodes : List Node) (k steps : ℕ) → All (IsResolved nodes) nodes → k < length nodes
+        → scopes_end steps nodes (Some k) ≡ true → scopes_end (length nodes) nodes (Some k) ≡ true }
+    ensures calls { (nodes : List Node) (k steps : ℕ) → All (IsResolved nodes) nodes → k < length nodes
+        → calls_end steps nodes (Some k) ≡ true → calls_end (length nodes) nodes (Some k) ≡ true }
 {}

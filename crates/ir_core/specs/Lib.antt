@@ -14,6 +14,7 @@ pub mod Refusals
 pub mod Resolved
 pub mod ResolvedBodies
 pub mod Runnable
+pub mod Scopes
 pub mod Spelling
 pub mod Starts
 pub mod Tokenisation

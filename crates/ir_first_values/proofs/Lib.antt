@@ -1,4 +1,6 @@
+pub mod ByteStrings
 pub mod Extending
+pub mod OffsetTables
 pub mod PartsInside
 pub mod PiecesInside
 pub mod Putting

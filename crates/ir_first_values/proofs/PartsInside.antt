@@ -89,6 +89,17 @@ item_inside t ty k count item small there inside =
     ap (λ n. counted_offset t ty (k * n)) counted ∙ counted_inside t ty (k * bytes) small (omega arith) in
     record { small = item_small; ends = omega arith }
 
+-- an array has as many times its item's bytes as it has items
+pub array_size : (t : Tables) (ty count item : ℕ) → IsSmall t ty → type_at t ty ≡ Some (Array count item) → size t ty ≡ count * size t item
+array_size t ty count item small there =
+    let whole = layout_is t ty (Array count item) small there in
+    let parts = array_parts count (layout_at (exact_layouts t.types t.fields) item) (sym (ap is_known whole) ∙ small.known) in
+    ap layout_size whole ∙ parts.size
+
+-- the item of an array that has one is small
+pub item_small : (t : Tables) (ty k count item : ℕ) → IsSmall t ty → type_at t ty ≡ Some (Array count item) → k < count → IsSmall t item
+item_small t ty k count item small there inside = (item_inside t ty k count item small there inside).small
+
 -- ---- fields
 
 -- what one more field says of itself and of those before

@@ -1,9 +1,10 @@
 -- The pieces of a first value lie within its type.
-use Rattle.std.proofs.Common.{◌≡◌, ℕ, zero, suc, ◌+◌, ◌-◌, ◌*◌, ◌%◌, ◌^◌, ◌<◌, ◌≤◌, Bool, true, false, ◌&&◌, leb, ltb, eqb, cond, List, [], ◌∷◌, length, slice_get, Option, Some, None, IfSome, All, arith, refl, sym, ◌∙◌, ap, subst, pow_pos}
+use Rattle.std.proofs.Common.{◌≡◌, ℕ, zero, suc, ◌+◌, ◌-◌, ◌*◌, ◌/◌, ◌%◌, ◌^◌, ◌<◌, ◌≤◌, Bool, true, false, ◌&&◌, leb, ltb, eqb, cond, List, [], ◌∷◌, length, take, drop, slice_get, Option, Some, None, IfSome, All, arith, refl, sym, ◌∙◌, ap, subst, pow_pos, length-drop}
 use Rattle.std.proofs.lemmas.Bool.{leb-true, ltb-true, eqb-true, and_parts}
-use Rattle.std.proofs.lemmas.List.Elements.{All-nil, All-cons, All-head, All-tail, All-weaker, All-append, All-get_or}
+use Rattle.std.proofs.lemmas.List.Elements.{All-nil, All-cons, All-head, All-tail, All-weaker, All-append, All-get_or, All-take, All-drop}
+use Rattle.std.proofs.lemmas.List.{length-take-le}
 use Rattle.std.proofs.lemmas.Option.{slice_get_within, get_or_from_slice_get}
-use Rattle.std.proofs.Math.Nat.{pow-le-pow_right}
+use Rattle.std.proofs.Math.Nat.{pow-le-pow_right, mul-le-mul_left}
 use Rattle.ir_core.specs.declared.types.IrType.{IrType}
 use Rattle.ir_core.specs.declared.types.IrType.TheVariants.{Void, Int, Ptr, Array, Struct, Opaque, Pair}
 use Rattle.ir_core.specs.declared.operands.Operand.{Operand}
@@ -20,11 +21,12 @@ use Rattle.ir_first_values.specs.declared.parts.TypePart.{TypePart}
 use Rattle.ir_first_values.specs.declared.addresses.Address.{Address}
 use Rattle.ir_first_values.specs.Tables.{Tables, items_from, type_at, is_spelled, is_sized, part_of, part_by, is_array_of, is_struct_of, is_in_width, integer_modulo, integer_in}
 use Rattle.ir_first_values.specs.Addresses.{null_address, variable_address, moved, indexed, place_of, plain_address, address_by, address_of, if_there}
-use Rattle.ir_first_values.specs.FirstValues.{piece, number_piece, integer_value, bool_in, operand_of, address_value, is_i8, is_i8_array_of, byte_piece, byte_pieces, bytes_value, string_of, flat_value, joined, element_by, elements_value, elements_of, nested_value, first_value}
+use Rattle.ir_first_values.specs.FirstValues.{piece, number_piece, integer_value, bool_in, operand_of, address_value, is_i8, is_i8_array_of, little_endian, bytes_piece, string_pieces, bytes_value, string_of, flat_value, joined, element_by, elements_value, elements_of, nested_value, first_value}
 use Rattle.ir_first_values.specs.Pieces.{IsPieceIn, AreNumbered}
 use Rattle.ir_first_values.specs.Answers.{behind}
 use Rattle.ir_first_values.proofs.TextBytes.{IsByte, string_small}
-use Rattle.ir_first_values.proofs.PartsInside.{size, IsSmall, IsPartOf, HasPart, part_inside, layout_is}
+use Rattle.ir_first_values.proofs.ByteStrings.{little_endian_below}
+use Rattle.ir_first_values.proofs.PartsInside.{size, IsSmall, IsPartOf, HasPart, part_inside, layout_is, array_size, item_small}
 
 -- the text has bytes, and names stand for variables that are there
 pub record IsBounded (t : Tables) (globals : ℕ) : Type 0 where
@@ -201,42 +203,45 @@ i8_takes_a_byte t ty (Some Opaque) small there h = cc
 i8_takes_a_byte t ty (Some (Pair width)) small there h = cc
 i8_takes_a_byte t ty None small there h = cc
 
-byte_inside : (t : Tables) (globals ty at b : ℕ) (part : Option TypePart) → b < 256 → IfSome part (IsPartOf t ty) → IfSome part (λ p. is_i8 (type_at t p.ty) ≡ true) → AreIn globals at (at + size t ty) (byte_piece at b part)
-byte_inside t globals ty at b (Some part) small h i8 =
-    let room : 1 ≤ size t part.ty = i8_takes_a_byte t part.ty (type_at t part.ty) h.small refl i8 in
-    let ends : part.offset + size t part.ty ≤ size t ty = h.ends in
-    widened globals (at + part.offset) (at + part.offset + 1) at (at + size t ty) (piece (at + part.offset) 1 (Number b)) (omega arith) (omega arith)
-    (one_piece globals (at + part.offset) 1 (at + part.offset + 1) (Number b) (omega arith) (omega arith, omega arith, omega arith))
-byte_inside t globals ty at b None small h i8 = All-nil (IsPieceIn globals at (at + size t ty))
+-- an array of so many i8 has as many bytes
+i8s_take : (t : Tables) (ty count item : ℕ) → IsSmall t ty → type_at t ty ≡ Some (Array count item) → is_i8 (type_at t item) ≡ true → count ≤ size t ty
+i8s_take t ty zero item small there h = omega arith
+i8s_take t ty (suc n) item small there h =
+    let whole : size t ty ≡ suc n * size t item = array_size t ty (suc n) item small there in
+    let room : 1 ≤ size t item = i8_takes_a_byte t item (type_at t item) (item_small t ty n (suc n) item small there (omega arith)) refl h in
+    let least : suc n * 1 ≤ suc n * size t item = mul-le-mul_left (suc n) room in
+    omega arith
 
-i8_part : (t : Tables) (ty k n : ℕ) (held : Option IrType) → is_i8_array_of t n held ≡ true → IfSome (part_by t ty k held) (λ p. is_i8 (type_at t p.ty) ≡ true)
-i8_part t ty k n (Some (Array count item)) h = (and_parts (eqb count n) (is_i8 (type_at t item)) h).1
-i8_part t ty k n (Some Void) h = tt
-i8_part t ty k n (Some (Int width)) h = tt
-i8_part t ty k n (Some Ptr) h = tt
-i8_part t ty k n (Some (Struct first count packed)) h = cc
-i8_part t ty k n (Some Opaque) h = tt
-i8_part t ty k n (Some (Pair width)) h = tt
-i8_part t ty k n None h = tt
+string_room : (t : Tables) (ty n : ℕ) (held : Option IrType) → IsSmall t ty → type_at t ty ≡ held → is_i8_array_of t n held ≡ true → n ≤ size t ty
+string_room t ty n (Some (Array count item)) small there h =
+    let both = and_parts (eqb count n) (is_i8 (type_at t item)) h in
+    let e : count ≡ n = eqb-true count n both.0 in
+    let room : count ≤ size t ty = i8s_take t ty count item small there both.1 in
+    omega arith
+string_room t ty n (Some Void) small there h = cc
+string_room t ty n (Some (Int width)) small there h = cc
+string_room t ty n (Some Ptr) small there h = cc
+string_room t ty n (Some (Struct first count packed)) small there h = cc
+string_room t ty n (Some Opaque) small there h = cc
+string_room t ty n (Some (Pair width)) small there h = cc
+string_room t ty n None small there h = cc
 
-i8_has : (t : Tables) (k n : ℕ) (held : Option IrType) → is_i8_array_of t n held ≡ true → k < n → HasPart held k
-i8_has t k n (Some (Array count item)) h lt = let e : count ≡ n = eqb-true count n (and_parts (eqb count n) (is_i8 (type_at t item)) h).0 in omega arith
-i8_has t k n (Some Void) h lt = tt
-i8_has t k n (Some (Int width)) h lt = tt
-i8_has t k n (Some Ptr) h lt = tt
-i8_has t k n (Some (Struct first count packed)) h lt = tt
-i8_has t k n (Some Opaque) h lt = tt
-i8_has t k n (Some (Pair width)) h lt = tt
-i8_has t k n None h lt = tt
+-- bytes in one piece
+piece_inside : (globals at to : ℕ) (bytes : List ℕ) → length bytes ≤ 16 → at + length bytes ≤ to → All IsByte bytes → AreIn globals at to (bytes_piece at bytes)
+piece_inside globals at to [] few room all = All-nil (IsPieceIn globals at to)
+piece_inside globals at to (b ∷ bytes) few room all =
+    one_piece globals at (length (b ∷ bytes)) to (Number (little_endian (b ∷ bytes))) room (omega arith, few, little_endian_below (b ∷ bytes) all)
 
-bytes_inside_from : (t : Tables) (globals ty at n k : ℕ) (bytes : List ℕ) → IsSmall t ty → is_i8_array_of t n (type_at t ty) ≡ true → k + length bytes ≤ n → All IsByte bytes → AreIn globals at (at + size t ty) (byte_pieces t ty at k bytes)
-bytes_inside_from t globals ty at n k [] small h room all = All-nil (IsPieceIn globals at (at + size t ty))
-bytes_inside_from t globals ty at n k (b ∷ bytes) small h room all =
-    let less : k < n = omega arith in
-    let more : suc k + length bytes ≤ n = omega arith in
-    All-append (IsPieceIn globals at (at + size t ty)) (byte_piece at b (part_of t ty k)) (byte_pieces t ty at (suc k) bytes)
-    (byte_inside t globals ty at b (part_of t ty k) (All-head IsByte b bytes all) (part_inside t ty k small (i8_has t k n (type_at t ty) h less)) (i8_part t ty k n (type_at t ty) h))
-    (bytes_inside_from t globals ty at n (suc k) bytes small h more (All-tail IsByte b bytes all))
+-- bytes in pieces of 16, and one of what is left
+string_inside : (globals n at to : ℕ) (bytes : List ℕ) → 16 * n ≤ length bytes → length bytes ≤ 16 * n + 15 → at + length bytes ≤ to → All IsByte bytes → AreIn globals at to (string_pieces n at bytes)
+string_inside globals zero at to bytes least most room all = piece_inside globals at to bytes (omega arith) room all
+string_inside globals (suc n) at to bytes least most room all =
+    let first : length (take 16 bytes) ≡ 16 = length-take-le 16 bytes (omega arith) in
+    let rest : length (drop 16 bytes) ≡ length bytes - 16 = length-drop 16 bytes in
+    All-append (IsPieceIn globals at to) (bytes_piece at (take 16 bytes)) (string_pieces n (at + 16) (drop 16 bytes))
+    (piece_inside globals at to (take 16 bytes) (omega (arith, first)) (omega (arith, first)) (All-take IsByte 16 bytes all))
+    (widened globals (at + 16) to at to (string_pieces n (at + 16) (drop 16 bytes)) (omega arith) (omega arith)
+    (string_inside globals n (at + 16) to (drop 16 bytes) (omega (arith, rest)) (omega (arith, rest)) (omega (arith, rest)) (All-drop IsByte 16 bytes all)))
 
 if_some : (b : Bool) (globals from to : ℕ) (value : Option (List Part)) → (b ≡ true → MayBeIn globals from to value) → MayBeIn globals from to (cond b value None)
 if_some true globals from to value h = h refl
@@ -244,8 +249,9 @@ if_some false globals from to value h = tt
 
 bytes_inside : (t : Tables) (globals ty at : ℕ) (bytes : List ℕ) → IsSmall t ty → All IsByte bytes → MayBeIn globals at (at + size t ty) (bytes_value t ty at bytes)
 bytes_inside t globals ty at bytes small all =
-    if_some (is_i8_array_of t (length bytes) (type_at t ty)) globals at (at + size t ty) (Some (byte_pieces t ty at 0 bytes))
-    (λ h. bytes_inside_from t globals ty at (length bytes) 0 bytes small h (omega arith) all)
+    if_some (is_i8_array_of t (length bytes) (type_at t ty)) globals at (at + size t ty) (Some (string_pieces (length bytes / 16) at bytes))
+    (λ h. let room : length bytes ≤ size t ty = string_room t ty (length bytes) (type_at t ty) small refl h in
+    string_inside globals (length bytes / 16) at (at + size t ty) bytes (omega arith) (omega arith) (omega arith) all)
 
 flat_inside : (t : Tables) (globals levels ty c at : ℕ) (constant : SpelledConstant) → IsBounded t globals → IsSmall t ty → MayBeIn globals at (at + size t ty) (flat_value t levels ty c at constant)
 flat_inside t globals levels ty c at (constants.Local name) b small = tt

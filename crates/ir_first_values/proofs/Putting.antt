@@ -4,7 +4,7 @@ use Rattle.std.proofs.Math.Seq.{drop-cons}
 use Rattle.ir_core.specs.declared.operands.Part.{Part}
 use Rattle.ir_grammar.specs.declared.spelled.TypedConstant.{TypedConstant}
 use Rattle.ir_first_values.specs.Tables.{Tables, part_of}
-use Rattle.ir_first_values.specs.FirstValues.{joined, element_by, elements_value, byte_piece, byte_pieces}
+use Rattle.ir_first_values.specs.FirstValues.{joined, element_by, elements_value}
 use Rattle.ir_first_values.specs.Answers.{behind}
 
 pub behind_joined : (old new : List Part) (a b : Option (List Part)) → behind old a ≡ Some new → behind new b ≡ behind old (joined a b)
@@ -28,10 +28,6 @@ joined_none None b h = refl
 
 pub behind_nothing : (old : List Part) → behind old (Some []) ≡ Some old
 behind_nothing old = ap Some (append-nil old)
-
--- one more byte, and none
-pub byte_pieces_more : (t : Tables) (ty at k : ℕ) (bytes : List ℕ) → k < length bytes → byte_pieces t ty at k (drop k bytes) ≡ byte_piece at (get_or bytes k 0) (part_of t ty k) ++ byte_pieces t ty at (suc k) (drop (suc k) bytes)
-byte_pieces_more t ty at k bytes h = ap (byte_pieces t ty at k) (drop-cons bytes k 0 h)
 
 -- one more element
 pub elements_more : (t : Tables) (inside : ℕ → ℕ → ℕ → Option (List Part)) (ty at k : ℕ) (es : List TypedConstant) (e : TypedConstant) → k < length es → elements_value t inside ty at k (drop k es) ≡ joined (element_by t inside at (get_or es k e) (part_of t ty k)) (elements_value t inside ty at (suc k) (drop (suc k) es))

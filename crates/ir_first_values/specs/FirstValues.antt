@@ -1,6 +1,6 @@
 -- The first value of a global variable, as pieces of bytes: what its initializer spells as a value of its type (LLVM
 -- Language Reference, "Constants"). A constant that breaks a rule has no value.
-use Rattle.std.specs.Prelude.{ℕ, zero, suc, ◌+◌, ◌==◌, ◌&&◌, Bool, false, if◌then◌else◌, List, [], ◌∷◌, ◌++◌, drop, length, slice_get, Option, Some, None}
+use Rattle.std.specs.Prelude.{ℕ, zero, suc, ◌+◌, ◌*◌, ◌/◌, ◌==◌, ◌&&◌, Bool, false, if◌then◌else◌, List, [], ◌∷◌, ◌++◌, take, drop, length, slice_get, Option, Some, None}
 use Rattle.ir_core.specs.declared.types.IrType.{IrType}
 use Rattle.ir_core.specs.declared.types.IrType.TheVariants.{Int, Ptr, Array}
 use Rattle.ir_core.specs.declared.operands.Operand.{Operand}
@@ -65,19 +65,24 @@ abbrev pub is_i8_array_of : Tables → ℕ → Option IrType → Bool
 is_i8_array_of t n (Some (Array count item)) = (count == n) && is_i8 (type_at t item)
 is_i8_array_of t n other = false
 
--- a byte at this part of a type
-abbrev pub byte_piece : ℕ → ℕ → Option TypePart → List Part
-byte_piece at b (Some part) = piece (at + part.offset) 1 (Number b)
-byte_piece at b None = []
+-- the number that some bytes make, the lowest first
+abbrev pub little_endian : List ℕ → ℕ
+little_endian [] = 0
+little_endian (b ∷ bytes) = b + 256 * little_endian bytes
 
--- bytes from part k of a type on
-abbrev pub byte_pieces : Tables → ℕ → ℕ → ℕ → List ℕ → List Part
-byte_pieces t ty at k [] = []
-byte_pieces t ty at k (b ∷ bytes) = byte_piece at b (part_of t ty k) ++ byte_pieces t ty at (suc k) bytes
+-- bytes in one piece, if there are any
+abbrev pub bytes_piece : ℕ → List ℕ → List Part
+bytes_piece at [] = []
+bytes_piece at (b ∷ bytes) = piece at (length (b ∷ bytes)) (Number (little_endian (b ∷ bytes)))
+
+-- so many pieces of 16 bytes each, and one of what is left
+abbrev pub string_pieces : ℕ → ℕ → List ℕ → List Part
+string_pieces zero at bytes = bytes_piece at bytes
+string_pieces (suc n) at bytes = bytes_piece at (take 16 bytes) ++ string_pieces n (at + 16) (drop 16 bytes)
 
 -- bytes are a value of an array of as many i8
 abbrev pub bytes_value : Tables → ℕ → ℕ → List ℕ → Option (List Part)
-bytes_value t ty at bytes = if is_i8_array_of t (length bytes) (type_at t ty) then Some (byte_pieces t ty at 0 bytes) else None
+bytes_value t ty at bytes = if is_i8_array_of t (length bytes) (type_at t ty) then Some (string_pieces (length bytes / 16) at bytes) else None
 
 -- the bytes that a byte string stands for: those of the string after its `c`
 abbrev pub string_of : Tables → Token → List ℕ

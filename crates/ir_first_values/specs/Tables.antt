@@ -4,7 +4,7 @@
 use Rattle.std.specs.Prelude.{ℕ, ◌≡◌, ◌-◌, ◌*◌, ◌%◌, ◌^◌, ◌==◌, ◌&&◌, nat_le, nat_lt, Bool, true, false, not, if◌then◌else◌, List, take, drop, slice_get, Option, Some, None}
 use Rattle.ir_core.specs.declared.types.IrType.{IrType}
 use Rattle.ir_core.specs.declared.types.IrType.TheVariants.{Int, Array, Struct}
-use Rattle.ir_core.specs.Layout.{has_size_of, alloc_size_of, field_offset_of, field_types, AreFieldOffsets}
+use Rattle.ir_core.specs.Layout.{has_size_of, alloc_size_of, field_offset_of, field_types}
 use Rattle.ir_arith.specs.TwosComplement.{signed_of, unsigned_of}
 use Rattle.ir_grammar.specs.declared.spelled.SpelledInteger.{SpelledInteger}
 use Rattle.ir_grammar.specs.declared.spelled.SpelledConstant.{SpelledConstant}
@@ -108,10 +108,6 @@ part_by t ty k other = None
 -- part k of the type with this number
 abbrev pub part_of : Tables → ℕ → ℕ → Option TypePart
 part_of t ty k = part_by t ty k (type_at t ty)
-
--- the offsets of all fields of a type, if they count
-abbrev pub AreOffsets : Tables → ℕ → List ℕ → Type 0
-AreOffsets t ty offsets = is_fitting t.types t.fields ty ≡ true → AreFieldOffsets t.types t.fields ty offsets
 
 -- the type is an array of so many items
 abbrev pub is_array_of : ℕ → Option IrType → Bool

@@ -1,5 +1,5 @@
 ghost use Rattle.std.specs.Prelude.{◌≡◌, ◌+◌, ◌%◌, ◌^◌, fold, slice_get, None, Some};
-ghost use Rattle.ir_core.specs.Resolved.{HasLayouts};
+ghost use Rattle.ir_first_values.specs.Offsets.{IsReady};
 ghost use Rattle.ir_first_values.specs.Tables.{tables_of, items_from, type_at};
 ghost use Rattle.ir_first_values.specs.Addresses.{null_address, variable_address, scaled_by, scaled, field_by, step_by, onward, stepped, place_of, moved, indexed, plain_address, address_by, address_of};
 
@@ -61,7 +61,7 @@ fn moved(base: Option<Address>, place: Option<TypePart>) -> Option<Address>
 impl<'a> Initializers<'a> {
     /// So many values of a type, modulo 2^64 bytes.
     fn scaled_by(&self, ty: u32, number: Option<u64>) -> Option<TypePart>
-        requires { HasLayouts self.now.module.now }
+        requires { IsReady self.now }
         ensures { result ≡ scaled_by (tables_of self.now) ty number }
     {
         match number {
@@ -75,7 +75,7 @@ impl<'a> Initializers<'a> {
 
     /// So many values of a type, by an index.
     fn scaled(&self, ty: u32, index: TypedIndex) -> Option<TypePart>
-        requires { HasLayouts self.now.module.now }
+        requires { IsReady self.now }
         ensures { result ≡ scaled (tables_of self.now) ty index }
     {
         self.scaled_by(ty, index_by(self.spelled_type(index.ty), index.value))
@@ -83,7 +83,7 @@ impl<'a> Initializers<'a> {
 
     /// The field of a struct with this number.
     fn field_by(&self, ty: u32, number: Option<u32>) -> Option<TypePart>
-        requires { HasLayouts self.now.module.now }
+        requires { IsReady self.now }
         ensures { result ≡ field_by (tables_of self.now) ty number }
     {
         match number {
@@ -94,7 +94,7 @@ impl<'a> Initializers<'a> {
 
     /// The step of an index into a type.
     fn step_by(&self, ty: u32, index: TypedIndex) -> Option<TypePart>
-        requires { HasLayouts self.now.module.now }
+        requires { IsReady self.now }
         ensures { result ≡ step_by (tables_of self.now) ty index (type_at (tables_of self.now) ty) }
     {
         match self.type_at(ty) {
@@ -108,7 +108,7 @@ impl<'a> Initializers<'a> {
 
     /// The place that an index leads to from another.
     fn stepped(&self, place: Option<TypePart>, index: TypedIndex) -> Option<TypePart>
-        requires { HasLayouts self.now.module.now }
+        requires { IsReady self.now }
         ensures { result ≡ stepped (tables_of self.now) place index }
     {
         match place {
@@ -119,7 +119,7 @@ impl<'a> Initializers<'a> {
 
     /// The place that indices lead to from another.
     fn stepped_by_all(&self, start: Option<TypePart>, indices: &[TypedIndex]) -> Option<TypePart>
-        requires { HasLayouts self.now.module.now }
+        requires { IsReady self.now }
         ensures { result ≡ fold (stepped (tables_of self.now)) start indices.now }
     {
         let mut place = start;
@@ -131,7 +131,7 @@ impl<'a> Initializers<'a> {
 
     /// Where indices lead in a type, which needs a size.
     fn place_of(&self, ty: Option<u32>, first: TypedIndex, rest: &[TypedIndex]) -> Option<TypePart>
-        requires { HasLayouts self.now.module.now }
+        requires { IsReady self.now }
         ensures { result ≡ place_of (tables_of self.now) ty first rest.now }
     {
         match ty {
@@ -148,7 +148,7 @@ impl<'a> Initializers<'a> {
 
     /// An address with indices into a spelled type.
     fn indexed(&self, of: usize, indices: &[TypedIndex], base: Option<Address>) -> Option<Address>
-        requires { HasLayouts self.now.module.now }
+        requires { IsReady self.now }
         ensures { result ≡ indexed (tables_of self.now) of indices.now base }
     {
         match indices {
@@ -174,7 +174,7 @@ impl<'a> Initializers<'a> {
     #[tactic(auto, unfolding(crate::specs::Addresses::address_of))]
     /// The address that a constant spells, with so many brackets within one another at most.
     pub(crate) fn address_of(&self, levels: u32, number: usize) -> Option<Address>
-        requires { HasLayouts self.now.module.now }
+        requires { IsReady self.now }
         ensures { result ≡ address_of levels (tables_of self.now) number }
     {
         match self.constant_at(number) {

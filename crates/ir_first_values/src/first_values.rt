@@ -1,5 +1,6 @@
 ghost use Rattle.std.specs.Prelude.{◌≡◌, ℕ, ◌<◌, IfOk, All};
-ghost use Rattle.ir_core.specs.Resolved.{HasLayouts, IsFitting, IsPartWithin};
+ghost use Rattle.ir_core.specs.Resolved.{IsFitting, IsPartWithin};
+ghost use Rattle.ir_first_values.specs.Offsets.{IsReady};
 ghost use Rattle.ir_core.specs.Layout.{alloc_size_of};
 ghost use Rattle.ir_grammar.specs.Grammar.{nesting_limit};
 ghost use Rattle.ir_first_values.specs.Tables.{tables_of};
@@ -29,14 +30,14 @@ fn text_has_bytes(text: &[u8])
 impl<'a> Initializers<'a> {
     /// The first value of a variable of a type, by the number of the type in the module and that of its initializer among
     /// the spelled constants. Bytes of no piece are 0. The only error is that memory ran out. The time is in proportion to the
-    /// initializer, and to the fields of the structs into which its `getelementptr`s step.
+    /// initializer.
     pub fn first_value(
         &self,
         alloc: Global,
         ty: u32,
         constant: usize,
     ) -> Result<FirstValue, OutOfMemory>
-        requires { HasLayouts self.now.module.now }
+        requires { IsReady self.now }
         ensures value { IfOk result (λ v. IsFirstValue v (first_value nesting_limit (tables_of self.now) ty constant 0)) }
         ensures within { (globals : ℕ) → AreNumbered globals self.now.variables.now → IsFitting self.now.module.now ty → IfOk result (λ v. All (IsPartWithin globals (alloc_size_of self.now.module.now.types self.now.module.now.fields ty)) v.init) }
     {

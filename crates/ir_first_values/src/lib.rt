@@ -7,11 +7,14 @@ mod addresses;
 mod first_values;
 mod integers;
 mod no_value;
+mod offsets;
+mod operands;
 mod parts;
 mod tables;
 mod values;
 
 pub use first_values::FirstValue;
+pub use offsets::FieldOffsets;
 pub use tables::Initializers;
 
 #[cfg(test)]

@@ -1,13 +1,12 @@
-ghost use Rattle.std.specs.Prelude.{◌≡◌, ◌*◌, ◌^◌, ◌<◌, ◌≤◌, length, slice_get, IfSome, IfOk, Some};
+ghost use Rattle.std.specs.Prelude.{◌≡◌, ◌*◌, ◌^◌, ◌<◌, ◌≤◌, length, slice_get, true, IfSome, Some};
 ghost use Rattle.ir_core.specs.declared.types.IrType.TheVariants.{Struct};
 ghost use Rattle.ir_core.specs.Layout.{field_types, field_offset_of, IsField};
-ghost use Rattle.ir_core.specs.Resolved.{HasLayouts};
-ghost use Rattle.ir_first_values.specs.Tables.{tables_of, type_at, counted_offset, counted_size, field_part, part_of, AreOffsets, is_array_of, is_struct_of};
+ghost use Rattle.ir_core.specs.Resolved.{IsFitting};
+ghost use Rattle.ir_first_values.specs.Offsets.{IsReady};
+ghost use Rattle.ir_first_values.specs.Tables.{tables_of, type_at, is_fitting, counted_offset, counted_size, field_part, part_of, is_array_of, is_struct_of};
 
 use crate::Initializers;
-use hw_base::OutOfMemory;
 use ir_core::{IrType, field_types};
-use std::alloc::Global;
 
 /// 2^40 bytes: the size of a type above which a module is refused.
 const GREATEST_SIZE: u64 = 0x100_0000_0000;
@@ -48,7 +47,7 @@ pub(crate) fn is_struct_of(packed: bool, count: usize, ty: Option<IrType>) -> bo
 impl<'a> Initializers<'a> {
     /// An offset in a type, 0 if the type's size or the offset is above 2^40.
     fn counted_offset(&self, ty: u32, offset: u64) -> u64
-        requires { HasLayouts self.now.module.now }
+        requires { IsReady self.now }
         ensures { result ≡ counted_offset (tables_of self.now) ty offset }
     {
         if self.is_fitting(ty) && offset <= GREATEST_SIZE {
@@ -60,21 +59,49 @@ impl<'a> Initializers<'a> {
 
     /// Where item number k of an array begins.
     fn item_offset(&self, ty: u32, item: u32, k: usize) -> u64
-        requires { HasLayouts self.now.module.now }
+        requires { IsReady self.now }
         ensures { result ≡ counted_offset (tables_of self.now) ty (k * counted_size (tables_of self.now) item) }
     {
         let size = self.counted_size(item);
         self.counted_offset(ty, (k as u64).saturating_mul(size))
     }
 
+    /// Where field number k of a struct begins, by the table of offsets, if it says so.
+    fn table_offset(&self, ty: u32, k: u32) -> Option<u64>
+        requires { IsReady self.now }
+        ensures { IfSome result (λ o. is_fitting (tables_of self.now).types (tables_of self.now).fields ty ≡ true → IsField (tables_of self.now).fields (type_at (tables_of self.now) ty) k → o ≡ field_offset_of (tables_of self.now).types (tables_of self.now).fields ty k) }
+    {
+        match self.offsets.starts.get(ty as usize) {
+            None => None,
+            Some(start) => match start.checked_add(k as usize) {
+                None => None,
+                Some(place) => self.offsets.offsets.get(place).copied(),
+            },
+        }
+    }
+
+    /// Where field number k of a struct of at most 2^40 bytes begins.
+    fn fitting_offset(&self, ty: u32, k: u32) -> u64
+        requires ready { IsReady self.now }
+        requires fits { IsFitting self.now.module.now ty }
+        requires fitting { is_fitting (tables_of self.now).types (tables_of self.now).fields ty ≡ true }
+        requires is_field { IsField (tables_of self.now).fields (type_at (tables_of self.now) ty) k }
+        ensures { result ≡ field_offset_of (tables_of self.now).types (tables_of self.now).fields ty k }
+    {
+        match self.table_offset(ty, k) {
+            Some(offset) => offset,
+            None => self.module.field_offset(ty, k),
+        }
+    }
+
     /// Where field number k of a struct begins.
     fn field_offset(&self, ty: u32, k: u32) -> u64
-        requires layouts { HasLayouts self.now.module.now }
+        requires ready { IsReady self.now }
         requires is_field { IsField (tables_of self.now).fields (type_at (tables_of self.now) ty) k }
         ensures { result ≡ counted_offset (tables_of self.now) ty (field_offset_of (tables_of self.now).types (tables_of self.now).fields ty k) }
     {
         if self.is_fitting(ty) {
-            let offset = self.module.field_offset(ty, k);
+            let offset = self.fitting_offset(ty, k);
             self.counted_offset(ty, offset)
         } else {
             0
@@ -83,7 +110,7 @@ impl<'a> Initializers<'a> {
 
     /// Part number k of a type, counted from 0: an item of an array or a field of a struct.
     pub(crate) fn part_of(&self, ty: u32, k: usize) -> Option<TypePart>
-        requires { HasLayouts self.now.module.now }
+        requires { IsReady self.now }
         ensures value { result ≡ part_of (tables_of self.now) ty k }
         ensures bound { IfSome result (λ part. part.offset ≤ 2 ^ 40) }
     {
@@ -104,55 +131,6 @@ impl<'a> Initializers<'a> {
                 }
             }
             _ => None,
-        }
-    }
-
-    /// Where each field of a type begins, if it is a struct of at most 2^40 bytes. The time is in proportion to the fields.
-    pub(crate) fn field_offsets(&self, alloc: Global, ty: u32) -> Result<Vec<u64>, OutOfMemory>
-        requires { HasLayouts self.now.module.now }
-        ensures { IfOk result (λ offsets. AreOffsets (tables_of self.now) ty offsets.items) }
-    {
-        if self.is_fitting(ty) {
-            self.module.field_offsets(alloc, ty)
-        } else {
-            Ok(Vec::new(alloc))
-        }
-    }
-
-    /// Where field number k of a struct begins, by the offsets of all its fields.
-    fn known_offset(&self, ty: u32, k: usize, offsets: &[u64]) -> u64
-        requires layouts { HasLayouts self.now.module.now }
-        requires offsets { AreOffsets (tables_of self.now) ty offsets.now }
-        requires is_field { IsField (tables_of self.now).fields (type_at (tables_of self.now) ty) k }
-        ensures { result ≡ counted_offset (tables_of self.now) ty (field_offset_of (tables_of self.now).types (tables_of self.now).fields ty k) }
-    {
-        if self.is_fitting(ty) {
-            self.counted_offset(ty, offsets[k])
-        } else {
-            0
-        }
-    }
-
-    /// Part number k of a type, by the offsets of all its fields, if it is a struct.
-    pub(crate) fn element_part(&self, ty: u32, k: usize, offsets: &[u64]) -> Option<TypePart>
-        requires layouts { HasLayouts self.now.module.now }
-        requires offsets { AreOffsets (tables_of self.now) ty offsets.now }
-        ensures value { result ≡ part_of (tables_of self.now) ty k }
-        ensures bound { IfSome result (λ part. part.offset ≤ 2 ^ 40) }
-    {
-        match self.type_at(ty) {
-            Some(IrType::Struct { first, count, .. }) => {
-                let types = field_types(self.module.fields.as_slice(), first, count);
-                if k < types.len() {
-                    Some(TypePart {
-                        ty: types[k],
-                        offset: self.known_offset(ty, k, offsets),
-                    })
-                } else {
-                    None
-                }
-            }
-            _ => self.part_of(ty, k),
         }
     }
 }

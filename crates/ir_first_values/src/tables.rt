@@ -1,8 +1,10 @@
 ghost use Rattle.std.specs.Prelude.{◌≡◌, ◌-◌, IsTrue, slice_get};
-ghost use Rattle.ir_core.specs.Resolved.{HasLayouts, IsFitting};
+ghost use Rattle.ir_core.specs.Resolved.{IsFitting};
+ghost use Rattle.ir_first_values.specs.Offsets.{IsReady};
 ghost use Rattle.ir_core.specs.Tokens.{bytes_of};
 ghost use Rattle.ir_first_values.specs.Tables.{tables_of, items_from, type_at, spelled_type, are_equal, class_by, is_spelled, is_sized, is_fitting, counted_size};
 
+use crate::FieldOffsets;
 use ir_core::{IrType, Module, Token};
 use ir_grammar::{SpelledConstant, Spellings, TypedConstant, TypedIndex};
 
@@ -11,6 +13,8 @@ use ir_grammar::{SpelledConstant, Spellings, TypedConstant, TypedIndex};
 #[derive(Drop)]
 pub struct Initializers<'a> {
     pub module: &'a Module,
+    /// Where the fields of the module's structs begin.
+    pub offsets: &'a FieldOffsets,
     /// The constants as they are spelled.
     pub found: &'a Spellings,
     /// The bytes of the text, in which tokens lie.
@@ -144,7 +148,7 @@ impl<'a> Initializers<'a> {
 
     /// Whether a type has a size.
     pub(crate) fn is_sized(&self, ty: u32) -> bool
-        requires { HasLayouts self.now.module.now }
+        requires { IsReady self.now }
         ensures { result ≡ is_sized (tables_of self.now) ty }
     {
         self.module.has_size(ty)
@@ -152,7 +156,7 @@ impl<'a> Initializers<'a> {
 
     /// Whether a type has a size of at most 2^40 bytes.
     pub(crate) fn is_fitting(&self, ty: u32) -> bool
-        requires { HasLayouts self.now.module.now }
+        requires { IsReady self.now }
         ensures value { result ≡ is_fitting (tables_of self.now).types (tables_of self.now).fields ty }
         ensures fits { IsTrue result → IsFitting self.now.module.now ty }
     {
@@ -161,7 +165,7 @@ impl<'a> Initializers<'a> {
 
     /// The alloc size of a type in bytes, 0 if it is above 2^40.
     pub(crate) fn counted_size(&self, ty: u32) -> u64
-        requires { HasLayouts self.now.module.now }
+        requires { IsReady self.now }
         ensures { result ≡ counted_size (tables_of self.now) ty }
     {
         if self.is_fitting(ty) {

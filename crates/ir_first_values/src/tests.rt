@@ -35,6 +35,8 @@ const I64: u32 = 9;
 const VOID: u32 = 10;
 /// [2 x i8]
 const SHORT: u32 = 11;
+/// [18 x i8]
+const LONG: u32 = 12;
 
 /// A module with the types above.
 fn small_module(alloc: Global) -> Result<Module, OutOfMemory>
@@ -65,6 +67,10 @@ fn small_module(alloc: Global) -> Result<Module, OutOfMemory>
         IrType::Int(64),
         IrType::Void,
         IrType::Array { count: 2, item: I8 },
+        IrType::Array {
+            count: 18,
+            item: I8,
+        },
     ] {
         types.push(ty)?;
     }
@@ -124,11 +130,11 @@ fn address(of: u32, base: usize, first: usize, count: usize) -> SpelledConstant 
     }
 }
 
-fn byte_string() -> SpelledConstant {
+fn byte_string(from: u32, to: u32) -> SpelledConstant {
     SpelledConstant::Bytes(Token {
         kind: TokenKind::Bytes,
-        from: 1,
-        to: 9,
+        from,
+        to,
         place: Place { line: 1, column: 2 },
     })
 }
@@ -173,12 +179,14 @@ fn check_rows(
     rows: &[(u32, usize, &str)],
 ) -> Result<(), Fail> {
     let module = small_module(alloc)?;
+    let offsets = FieldOffsets::new(alloc, &module)?;
     let values = Initializers {
         module: &module,
+        offsets: &offsets,
         found,
-        source: b" c\"hi\\00\" ".as_slice(),
-        numbers: &[0, 1, 2, 3, 4, 5, 6, 7, 8, 9, 10, 11],
-        classes: &[0, 1, 2, 3, 4, 5, 6, 7, 8, 9, 10, 11],
+        source: b" c\"hi\\00\" c\"abcdefghijklmnopqr\"".as_slice(),
+        numbers: &[0, 1, 2, 3, 4, 5, 6, 7, 8, 9, 10, 11, 12],
+        classes: &[0, 1, 2, 3, 4, 5, 6, 7, 8, 9, 10, 11, 12],
         variables: &[Some(3), None],
     };
     for (ty, constant, want) in rows {
@@ -207,8 +215,9 @@ fn single_constants_fit_the_types_that_they_are_values_of(rt: HostRuntime) -> Re
         SpelledConstant::Bool(true),
         SpelledConstant::Null,
         SpelledConstant::Zero,
-        byte_string(),
+        byte_string(1, 9),
         integer(u128::MAX),
+        byte_string(10, 31),
     ] {
         found.constants.push(constant)?;
     }
@@ -229,14 +238,19 @@ fn single_constants_fit_the_types_that_they_are_values_of(rt: HostRuntime) -> Re
         (I64, 9, "-"),
         (PAIRS, 10, ""),
         (VOID, 10, "-"),
-        (BYTES, 11, "0:1=104 1:1=105 2:1=0 "),
+        (BYTES, 11, "0:3=26984 "),
         (PAIRS, 11, "-"),
         (SHORT, 11, "-"),
         (I1, 2, "0:1=1 "),
         (I1, 3, "-"),
         (I128, 12, "0:16=340282366920938463463374607431768211455 "),
         (I64, 12, "-"),
-        (I64, 13, "-"),
+        (
+            LONG,
+            13,
+            "0:16=149452120213688298009235146691947225697 16:2=29297 ",
+        ),
+        (I64, 14, "-"),
     ];
     check_rows(&rt, rt.alloc(), &found, rows.as_slice())
 }

@@ -1,9 +1,9 @@
-ghost use Rattle.std.specs.Prelude.{◌≡◌, ◌+◌, ◌*◌, ◌^◌, ◌≤◌, drop, slice_get, length, IfOk, IfSome, Some, None, ◌<◌};
-ghost use Rattle.ir_core.specs.Resolved.{HasLayouts};
+ghost use Rattle.std.specs.Prelude.{◌≡◌, ◌+◌, ◌*◌, ◌/◌, ◌^◌, ◌≤◌, take, drop, slice_get, length, IfOk, IfSome, Some, None, ◌<◌};
+ghost use Rattle.ir_first_values.specs.Offsets.{IsReady};
 ghost use Rattle.ir_text.specs.TokenText.{string_bytes_of};
 ghost use Rattle.ir_first_values.specs.Tables.{tables_of, type_at, integer_in, is_array_of, is_struct_of, part_of};
 ghost use Rattle.ir_first_values.specs.Addresses.{address_of};
-ghost use Rattle.ir_first_values.specs.FirstValues.{piece, number_piece, integer_value, bool_in, operand_of, address_value, zero_value, is_i8, is_i8_array_of, byte_piece, byte_pieces, bytes_value, string_of, flat_value, element_by, elements_value, elements_of, nested_value, first_value};
+ghost use Rattle.ir_first_values.specs.FirstValues.{piece, number_piece, integer_value, bool_in, operand_of, address_value, zero_value, is_i8, is_i8_array_of, little_endian, bytes_piece, string_pieces, bytes_value, string_of, flat_value, element_by, elements_value, elements_of, nested_value, first_value};
 ghost use Rattle.ir_first_values.specs.Answers.{Puts};
 
 use crate::Initializers;
@@ -36,7 +36,7 @@ fn put_number(parts: &mut PartList, at: u64, width: u32, value: Option<u128>) ->
 }
 
 /// `true` and `false` in so many bits.
-fn bool_in(value: bool, width: u32) -> Option<u128>
+pub(crate) fn bool_in(value: bool, width: u32) -> Option<u128>
     ensures { result ≡ bool_in value width }
 {
     if width == 1 {
@@ -47,7 +47,7 @@ fn bool_in(value: bool, width: u32) -> Option<u128>
 }
 
 /// An address as an operand.
-fn operand_of(address: Address) -> Operand
+pub(crate) fn operand_of(address: Address) -> Operand
     ensures { result ≡ operand_of address.variable address.offset }
 {
     match address.variable {
@@ -93,15 +93,65 @@ fn is_i8(ty: Option<IrType>) -> bool
     }
 }
 
-/// Puts a byte at a part of a type.
-fn put_byte(parts: &mut PartList, at: u64, byte: u8, part: Option<TypePart>) -> Result<(), NoValue>
-    requires { IfSome part (λ part. at + part.offset < 2 ^ 64) }
-    ensures { Puts result parts.old parts.new (Some (byte_piece at byte part)) }
+/// The number that at most 16 bytes make, the lowest first.
+fn little_endian(bytes: &[u8]) -> u128
+    requires { length bytes.now ≤ 16 }
+    ensures value { result ≡ little_endian bytes.now }
+    ensures below { result < 2 ^ (8 * length bytes.now) }
 {
-    match part {
-        Some(part) => put(parts, at + part.offset, 1, Operand::Int(byte as u128)),
-        None => Ok(()),
+    match bytes {
+        [] => 0,
+        [lowest, rest @ ..] => {
+            let lowest = *lowest as u128;
+            let above = little_endian(rest);
+            lowest + 256 * above
+        }
     }
+}
+
+/// Puts at most 16 bytes as one piece, if there are any.
+fn put_piece(parts: &mut PartList, at: u64, bytes: &[u8]) -> Result<(), NoValue>
+    requires { length bytes.now ≤ 16 }
+    ensures { Puts result parts.old parts.new (Some (bytes_piece at bytes.now)) }
+{
+    match bytes {
+        [] => Ok(()),
+        [_, ..] => {
+            let number = little_endian(bytes);
+            put(parts, at, bytes.len() as u32, Operand::Int(number))
+        }
+    }
+}
+
+/// The first 16 bytes.
+fn first_16(bytes: &[u8]) -> &[u8]
+    requires { 16 ≤ length bytes.now }
+    ensures { result.now ≡ take 16 bytes.now }
+{
+    &bytes[..16]
+}
+
+/// The bytes after the first 16.
+fn after_16(bytes: &[u8]) -> &[u8]
+    requires { 16 ≤ length bytes.now }
+    ensures { result.now ≡ drop 16 bytes.now }
+{
+    &bytes[16..]
+}
+
+/// Puts bytes in pieces of 16, and one of what is left.
+fn put_bytes(parts: &mut PartList, at: u64, bytes: &[u8]) -> Result<(), NoValue>
+    requires { at ≤ 2 ^ 63 }
+    ensures { Puts result parts.old parts.new (Some (string_pieces (length bytes.now / 16) at bytes.now)) }
+{
+    let mut place = at;
+    let mut rest = bytes;
+    while rest.len() >= 16 {
+        put_piece(parts, place, first_16(rest))?;
+        place += 16;
+        rest = after_16(rest);
+    }
+    put_piece(parts, place, rest)
 }
 
 impl<'a> Initializers<'a> {
@@ -143,18 +193,6 @@ impl<'a> Initializers<'a> {
         }
     }
 
-    /// Puts bytes, each at its part of a type.
-    fn put_bytes(&self, parts: &mut PartList, at: u64, ty: u32, bytes: &[u8]) -> Result<(), NoValue>
-        requires layouts { HasLayouts self.now.module.now }
-        requires room { at ≤ 2 ^ 63 }
-        ensures { Puts result parts.old parts.new (Some (byte_pieces (tables_of self.now) ty at 0 bytes.now)) }
-    {
-        for (k, byte) in bytes.iter().enumerate() {
-            put_byte(parts, at, *byte, self.part_of(ty, k))?;
-        }
-        Ok(())
-    }
-
     /// The bytes that a byte string stands for.
     fn string_of(&self, alloc: Global, token: Token) -> Result<ByteList, OutOfMemory>
         ensures { IfOk result (λ bytes. bytes ≡ string_of (tables_of self.now) token) }
@@ -173,13 +211,13 @@ impl<'a> Initializers<'a> {
         ty: u32,
         token: Token,
     ) -> Result<(), NoValue>
-        requires layouts { HasLayouts self.now.module.now }
+        requires layouts { IsReady self.now }
         requires room { at ≤ 2 ^ 63 }
         ensures { Puts result parts.old parts.new (bytes_value (tables_of self.now) ty at (string_of (tables_of self.now) token)) }
     {
         let bytes = self.string_of(alloc, token)?;
         if self.is_i8_array_of(bytes.as_slice().len(), ty) {
-            self.put_bytes(parts, at, ty, bytes.as_slice())
+            put_bytes(parts, at, bytes.as_slice())
         } else {
             Err(NoValue::RuleBroken)
         }
@@ -187,7 +225,7 @@ impl<'a> Initializers<'a> {
 
     /// Puts nothing, for bytes 0 of a type with a size.
     fn put_zero(&self, parts: &mut PartList, ty: u32) -> Result<(), NoValue>
-        requires { HasLayouts self.now.module.now }
+        requires { IsReady self.now }
         ensures { Puts result parts.old parts.new (zero_value (tables_of self.now) ty) }
     {
         if self.is_sized(ty) {
@@ -208,7 +246,7 @@ impl<'a> Initializers<'a> {
         number: usize,
         constant: SpelledConstant,
     ) -> Result<(), NoValue>
-        requires layouts { HasLayouts self.now.module.now }
+        requires layouts { IsReady self.now }
         requires room { at ≤ 2 ^ 63 }
         ensures { Puts result parts.old parts.new (flat_value (tables_of self.now) levels ty number at constant) }
     {
@@ -236,7 +274,7 @@ impl<'a> Initializers<'a> {
         element: TypedConstant,
         part: Option<TypePart>,
     ) -> Result<(), NoValue>
-        requires layouts { HasLayouts self.now.module.now }
+        requires layouts { IsReady self.now }
         requires room { at + (levels + 1) * 2 ^ 40 ≤ 2 ^ 63 }
         requires bound { IfSome part (λ part. part.offset ≤ 2 ^ 40) }
         ensures { Puts result parts.old parts.new (element_by (tables_of self.now) (first_value levels (tables_of self.now)) at element part) }
@@ -265,13 +303,12 @@ impl<'a> Initializers<'a> {
         ty: u32,
         elements: &[TypedConstant],
     ) -> Result<(), NoValue>
-        requires layouts { HasLayouts self.now.module.now }
+        requires layouts { IsReady self.now }
         requires room { at + (levels + 1) * 2 ^ 40 ≤ 2 ^ 63 }
         ensures { Puts result parts.old parts.new (elements_value (tables_of self.now) (first_value levels (tables_of self.now)) ty at 0 elements.now) }
     {
-        let offsets = self.field_offsets(alloc, ty)?;
         for (k, element) in elements.iter().enumerate() {
-            let part = self.element_part(ty, k, offsets.as_slice());
+            let part = self.part_of(ty, k);
             match self.put_element(alloc, parts, levels, at, *element, part) {
                 Ok(()) => {}
                 Err(why) => return Err(why),
@@ -292,7 +329,7 @@ impl<'a> Initializers<'a> {
         fits: bool,
         elements: &[TypedConstant],
     ) -> Result<(), NoValue>
-        requires layouts { HasLayouts self.now.module.now }
+        requires layouts { IsReady self.now }
         requires room { at + (levels + 1) * 2 ^ 40 ≤ 2 ^ 63 }
         ensures { Puts result parts.old parts.new (elements_of (tables_of self.now) (first_value levels (tables_of self.now)) ty at fits elements.now) }
     {
@@ -315,7 +352,7 @@ impl<'a> Initializers<'a> {
         number: usize,
         constant: SpelledConstant,
     ) -> Result<(), NoValue>
-        requires layouts { HasLayouts self.now.module.now }
+        requires layouts { IsReady self.now }
         requires room { at + (levels + 1) * 2 ^ 40 ≤ 2 ^ 63 }
         requires levels { levels + 1 < 2 ^ 32 }
         ensures { Puts result parts.old parts.new (nested_value (tables_of self.now) (first_value levels (tables_of self.now)) (levels + 1) ty number at constant) }
@@ -351,7 +388,7 @@ impl<'a> Initializers<'a> {
         ty: u32,
         number: usize,
     ) -> Result<(), NoValue>
-        requires layouts { HasLayouts self.now.module.now }
+        requires layouts { IsReady self.now }
         requires room { at + levels * 2 ^ 40 ≤ 2 ^ 63 }
         ensures { Puts result parts.old parts.new (first_value levels (tables_of self.now) ty number at) }
     {

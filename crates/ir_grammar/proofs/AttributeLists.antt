@@ -28,6 +28,11 @@ attribute_kinds at.Parameter k.Equals = refl
 attribute_kinds at.DeclareTail k.Equals = refl
 attribute_kinds _ _ = refl
 
+pub attribute_starts : (c : Context) (ts : List Terminal) → starts (first (attribute c)) ts
+    ≡ ((starts (attribute_words c) ts || starts (k.Align ∷ k.CallingConvention ∷ k.Text ∷ k.OtherLayout ∷ k.AttrNumber ∷ []) ts) || starts (refused_attributes c) ts)
+attribute_starts c [] = refl
+attribute_starts c (t ∷ ts) = attribute_kinds c t.kind
+
 pub attribute_full : (c : Context) → is_empty (attribute c) ≡ false
 unfolding attribute word_attribute align_attribute convention_attribute text_attribute
 attribute_full c = refl

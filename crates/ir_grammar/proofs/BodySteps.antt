@@ -10,15 +10,18 @@ use Rattle.ir_grammar.specs.declared.spelled_bodies.SpelledCase.{SpelledCase}
 use Rattle.ir_grammar.specs.declared.spelled_bodies.SpelledAttachment.{SpelledAttachment}
 use Rattle.ir_grammar.specs.declared.spelled_bodies.SpelledOperation.{SpelledOperation}
 use Rattle.ir_grammar.specs.declared.spelled_bodies.SpelledInstruction.{SpelledInstruction}
-use Rattle.ir_grammar.specs.Rules.{base, list}
+use Rattle.ir_grammar.specs.declared.spelled_bodies.SpelledBlock.{SpelledBlock}
+use Rattle.ir_grammar.specs.declared.spelled.SpelledParameter.{SpelledParameter}
+use Rattle.ir_grammar.specs.declared.spelled.SpelledItem.TheVariants as items
+use Rattle.ir_grammar.specs.Rules.{nothing, base, list}
 use Rattle.ir_grammar.specs.Spelled.{Store}
-use Rattle.ir_grammar.specs.SpelledBodies.{add_operand, with_operands, with_incoming, with_cases, with_attachments, with_instructions, add_phi, add_step, add_call, add_switch, add_instruction, add_block}
-use Rattle.ir_grammar.specs.Names.{Base, Carrier, operand, typed, incoming, case, operation, instruction, block, shared}
-use Rattle.ir_grammar.specs.SoundStore.{counts_of, IsSoundConstant, IsSoundOperand, IsSoundTyped, IsSoundIncoming, IsSoundCase, IsSoundOperation, IsSoundInstruction, IsSoundStore, size_of}
+use Rattle.ir_grammar.specs.SpelledBodies.{add_operand, with_operands, with_incoming, with_cases, with_attachments, with_instructions, with_blocks, with_parameters, add_define, add_phi, add_step, add_call, add_switch, add_instruction, add_block}
+use Rattle.ir_grammar.specs.Names.{Base, Carrier, operand, typed, incoming, case, operation, instruction, block, parameter, shared}
+use Rattle.ir_grammar.specs.SoundStore.{counts_of, IsSoundConstant, IsSoundOperand, IsSoundTyped, IsSoundIncoming, IsSoundCase, IsSoundOperation, IsSoundInstruction, IsSoundBlock, IsSoundParameter, IsSoundStore, size_of}
 use Rattle.std.proofs.lemmas.List.Elements.{All-append, All-cons, All-nil}
-use Rattle.ir_grammar.proofs.Kept.{SoundValue, Kept}
-use Rattle.ir_grammar.proofs.SoundBodies.{all_more, operand_stays, typed_stays, incoming_stays, case_stays, operation_stays, instruction_stays}
-use Rattle.ir_grammar.proofs.SoundSteps.{SoundIn, Grown, below, reading, lists_stay, kept_constant}
+use Rattle.ir_grammar.proofs.Kept.{SoundValue, Kept, sound_later}
+use Rattle.ir_grammar.proofs.SoundBodies.{all_more, same_bodies, operand_stays, typed_stays, incoming_stays, case_stays, operation_stays, instruction_stays, block_stays}
+use Rattle.ir_grammar.proofs.SoundSteps.{SoundIn, Grown, grown_on, below, reading, lists_stay, parameters_sound, kept_constant, kept_item}
 
 -- a sound list of values is sound one by one
 list_sound : (b : Base) (xs : List (Carrier b)) (st : Store) → SoundValue shared reading (list (base b)) xs st → All (λ x. SoundIn b x st) xs
@@ -209,3 +212,62 @@ kept_block label found st budget good h full le =
     let longer : length (st.bodies.instructions ++ found) ≡ length st.bodies.instructions + length found = length-append st.bodies.instructions found in
     let (good', g) = instructions_in found st good h in
     record { good = good'; grows = g; sound = (omega (arith, longer), full); light = omega (arith, longer) }
+
+-- the store behind these blocks is sound
+blocks_in : (found : List SpelledBlock) (st : Store) → IsSoundStore st → SoundValue shared reading (list (base block)) found st → IsSoundStore (with_blocks found st) × Grown st (with_blocks found st)
+blocks_in found st good h =
+    let mid : Store = with_blocks found st in
+    let longer : length (st.bodies.blocks ++ found) ≡ length st.bodies.blocks + length found = length-append st.bodies.blocks found in
+    let g : Grown st mid = record { types = omega arith; fields = omega arith; constants = omega arith; elements = omega arith; indices = omega arith; parameters = omega arith; bodies = record { operands = omega arith; incoming = omega arith; cases = omega arith; attachments = omega arith; instructions = omega arith; blocks = omega (arith, longer) } } in
+    let s = lists_stay st mid good g in (
+      record {
+        types = s.types;
+        fields = s.fields;
+        constants = s.constants;
+        elements = s.elements;
+        indices = s.indices;
+        parameters = s.parameters;
+        items = s.items;
+        bodies = record {
+          operands = s.bodies.operands;
+          incoming = s.bodies.incoming;
+          cases = s.bodies.cases;
+          instructions = s.bodies.instructions;
+          blocks = All-append (IsSoundBlock (counts_of mid)) st.bodies.blocks found s.bodies.blocks (all_more (IsSoundBlock (counts_of st)) (IsSoundBlock (counts_of mid)) found (block_stays (counts_of st) (counts_of mid) (below st mid g)) (list_sound block found st h));
+        };
+      },
+      g,
+    )
+
+-- the store behind these parameters is sound
+parameters_in : (found : List SpelledParameter) (st : Store) → IsSoundStore st → SoundValue shared reading (list (base parameter)) found st → IsSoundStore (with_parameters found st) × Grown st (with_parameters found st)
+parameters_in found st good h =
+    let mid : Store = with_parameters found st in
+    let longer : length (st.parameters ++ found) ≡ length st.parameters + length found = length-append st.parameters found in
+    let g : Grown st mid = record { types = omega arith; fields = omega arith; constants = omega arith; elements = omega arith; indices = omega arith; parameters = omega (arith, longer); bodies = same_bodies st.bodies } in
+    let s = lists_stay st mid good g in (
+      record {
+        types = s.types;
+        fields = s.fields;
+        constants = s.constants;
+        elements = s.elements;
+        indices = s.indices;
+        parameters = All-append (IsSoundParameter (counts_of mid)) st.parameters found s.parameters (all_more (IsSoundParameter (counts_of st)) (IsSoundParameter (counts_of mid)) found (λ x p. p) (parameters_sound found st h));
+        items = s.items;
+        bodies = s.bodies;
+      },
+      g,
+    )
+
+-- a definition is added, behind its parameters and blocks
+pub kept_define : (name : Token) (ty : ℕ) (found : List SpelledParameter) (blocks : List SpelledBlock) (st : Store) (budget : ℕ) → IsSoundStore st → ty < length st.types → SoundValue shared reading (list (base parameter)) found st
+    → SoundValue shared reading (list (base block)) blocks st → size_of st + length found + length blocks + 1 ≤ budget → Kept shared reading nothing (add_define name ty found blocks st).0 st (add_define name ty found blocks st).1 budget
+kept_define name ty found blocks st budget good ht h hb le =
+    let mid : Store = with_parameters found st in
+    let last : Store = with_blocks blocks mid in
+    let longer : length (st.parameters ++ found) ≡ length st.parameters + length found = length-append st.parameters found in
+    let more : length (st.bodies.blocks ++ blocks) ≡ length st.bodies.blocks + length blocks = length-append st.bodies.blocks blocks in
+    let (good', g) = parameters_in found st good h in
+    let (good'', g') = blocks_in blocks mid good' (sound_later shared reading (list (base block)) blocks st mid g hb) in
+    let k = kept_item (items.Define name ty (length st.parameters) (length found) (length st.bodies.blocks) (length blocks)) last budget good'' (ht, omega (arith, longer), omega (arith, more)) (omega (arith, longer, more)) in
+    record { good = k.good; grows = grown_on st last (add_define name ty found blocks st).1 (grown_on st mid last g g') k.grows; sound = tt; light = k.light }

@@ -90,7 +90,7 @@ module _ (S : Signature) (rules : (n : S.Name) → Rule S (S.sort_of n)) where
       → Grows (read_in (inside S rules l) a ts st) (read_in (inside S rules k) a ts st)
   grown l k le s a ts st = grows l k (deep_grows l k le) s a ts st
 
-  failed_there : (l k : ℕ) → l ≤ k → (s : Sort S.Base) (a : Rule S s) (ts : List Terminal) (st : S.Store) (e : Flaw) → (e.fault ≡ TooLarge Nesting → ⊥)
+  pub failed_there : (l k : ℕ) → l ≤ k → (s : Sort S.Base) (a : Rule S s) (ts : List Terminal) (st : S.Store) (e : Flaw) → (e.fault ≡ TooLarge Nesting → ⊥)
       → read_in (inside S rules l) a ts st ≡ Err e → read_in (inside S rules k) a ts st ≡ Err e
   failed_there l k le s a ts st e other h =
       elim (grown l k le s a ts st) [

@@ -77,3 +77,7 @@ or_true false = refl
 -- they begin with one of the others
 pub starts_right : (ks js : List Kind) (ts : List Terminal) → starts js ts ≡ true → starts (ks ++ js) ts ≡ true
 starts_right ks js ts h = starts-append ks js ts ∙ (ap (λ v. starts ks ts || v) h ∙ or_true (starts ks ts))
+
+-- the same, read from the right
+pub starts_append : (ks js : List Kind) (ts : List Terminal) → (starts ks ts || starts js ts) ≡ starts (ks ++ js) ts
+starts_append ks js ts = sym (starts-append ks js ts)

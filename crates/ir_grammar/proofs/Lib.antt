@@ -2,6 +2,7 @@ pub mod AttributeLists
 pub mod BodiesKept
 pub mod BodiesWellFormed
 pub mod BodySteps
+pub mod Causes
 pub mod Complete
 pub mod ConstantLists
 pub mod Deeper
@@ -10,6 +11,7 @@ pub mod Grown
 pub mod Kept
 pub mod KindSets
 pub mod Levels
+pub mod Listed
 pub mod Loops
 pub mod NamesKept
 pub mod Numbers
@@ -25,5 +27,6 @@ pub mod SoundSteps
 pub mod Stuck
 pub mod TypeKinds
 pub mod TypeLists
+pub mod Unsupported
 pub mod Viable
 pub mod WellFormed

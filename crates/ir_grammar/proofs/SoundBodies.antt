@@ -27,6 +27,7 @@ pub record IsBelow (n m : Counts) : Type 0 where
   pub cases : n.cases ≤ m.cases
   pub attachments : n.attachments ≤ m.attachments
   pub instructions : n.instructions ≤ m.instructions
+  pub blocks : n.blocks ≤ m.blocks
 
 -- there is no less of anything in bodies
 pub record GrownBodies (before after : BodyStore) : Type 0 where

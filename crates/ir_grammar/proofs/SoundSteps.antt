@@ -70,6 +70,7 @@ below st st' g = record {
   cases = g.bodies.cases;
   attachments = g.bodies.attachments;
   instructions = g.bodies.instructions;
+  blocks = g.bodies.blocks;
 }
 
 pub stays : (b : Base) (x : Carrier b) (st st' : Store) → Grown st st' → SoundIn b x st → SoundIn b x st'
@@ -120,6 +121,8 @@ item_stays n m b (items.Type name ty) h = let p = b.types in omega arith
 item_stays n m b (items.Global name c ty value) h = let p = b.types in let q = b.constants in let h0 = h.0 in let h1 = h.1 in (omega arith, omega arith)
 item_stays n m b items.Used h = tt
 item_stays n m b (items.Declare name result a c) h = let p = b.types in let q = b.parameters in let h0 = h.0 in let h1 = h.1 in (omega arith, omega arith)
+item_stays n m b (items.Define name result a c e k) h =
+    let p = b.types in let q = b.parameters in let r = b.blocks in let h0 = h.0 in let h1 = h.1 in let h2 = h.2 in (omega arith, omega arith, omega arith)
 item_stays n m b (items.Node t) h = tt
 item_stays n m b (items.NodeList t) h = tt
 
@@ -167,7 +170,7 @@ indices_sound : (xs : List TypedIndex) (st : Store) → SoundValue shared readin
 indices_sound [] st h = All-nil (IsSoundIndex (counts_of st))
 indices_sound (x ∷ xs) st h = All-cons (IsSoundIndex (counts_of st)) x xs h.0 (indices_sound xs st h.1)
 
-parameters_sound : (xs : List SpelledParameter) (st : Store) → SoundValue shared reading (list (base parameter)) xs st → All (IsSoundParameter (counts_of st)) xs
+pub parameters_sound : (xs : List SpelledParameter) (st : Store) → SoundValue shared reading (list (base parameter)) xs st → All (IsSoundParameter (counts_of st)) xs
 parameters_sound [] st h = All-nil (IsSoundParameter (counts_of st))
 parameters_sound (x ∷ xs) st h = All-cons (IsSoundParameter (counts_of st)) x xs h.0 (parameters_sound xs st h.1)
 

@@ -86,7 +86,7 @@ module _ (S : Signature) (rules : (n : S.Name) → Rule S (S.sort_of n)) where
   round_past wf levels s a ts st n full g h (Err d) e l = subst (λ v. Leaves n v) (sym (many_failed S rules levels s a ts st d h e)) l
 
   -- the bracket behind what was read
-  closing : (l : ℕ) (k' : Kind) (n : S.Name) (ts : List Terminal) (st : S.Store) (m : ℕ) → Leaves m (read_in (inside S rules l) (rules n) ts st)
+  pub closing : (l : ℕ) (k' : Kind) (n : S.Name) (ts : List Terminal) (st : S.Store) (m : ℕ) → Leaves m (read_in (inside S rules l) (rules n) ts st)
       → Leaves m (read_in (inside S rules l) (rules n) ts st >>= λ y. take (k' ∷ []) y.1 y.2 >>= λ z. Ok (y.0, z.1, z.2))
   closing l k' n ts st m h =
       leaves_bind m (read_in (inside S rules l) (rules n) ts st) (λ y. take (k' ∷ []) y.1 y.2 >>= λ z. Ok (y.0, z.1, z.2)) h

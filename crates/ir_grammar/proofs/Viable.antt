@@ -175,7 +175,7 @@ module _ (S : Signature) (rules : (n : S.Name) → Rule S (S.sort_of n)) where
       let (xs, x, end, p) = shallow wf n st in subst (λ v. Begins S rules (S.sort_of n) (rules n) v st) (sym e) (0, xs, x, end, p)
   begun_name wf n front st (inr b) = b
 
-  inside_ok : (levels : ℕ) (n : S.Name) (at : ℕ) (ts : List Terminal) (st : S.Store) (x : Value S (S.sort_of n) × List Terminal × S.Store)
+  pub inside_ok : (levels : ℕ) (n : S.Name) (at : ℕ) (ts : List Terminal) (st : S.Store) (x : Value S (S.sort_of n) × List Terminal × S.Store)
       → inside S rules levels n at ts st ≡ Ok x → (l : ℕ) × (levels ≡ suc l) × Found S rules l (S.sort_of n) (rules n) ts st x
   inside_ok zero n at ts st x h = cc
   inside_ok (suc l) n at ts st x h = (l, refl, all_sound S rules l (S.sort_of n) (rules n) ts st x h)

@@ -6,6 +6,7 @@ pub mod Conditions
 pub mod Constants
 pub mod DebugFields
 pub mod DebugNodes
+pub mod Forms
 pub mod Grammar
 pub mod Instructions
 pub mod KindOf

@@ -1,4 +1,4 @@
--- What tokens begin a derivation, and where a refused form stands.
+-- Which tokens begin a derivation.
 use Rattle.std.specs.Prelude.{ℕ, List, ◌++◌}
 use Rattle.ir_grammar.specs.declared.terminal.Terminal.{Terminal}
 use Rattle.ir_grammar.specs.Rules.{Sort, Signature, Value, Rule, Derives}

@@ -50,6 +50,7 @@ pub record Counts : Type 0 where
   pub cases : ℕ
   pub attachments : ℕ
   pub instructions : ℕ
+  pub blocks : ℕ
 
 -- those of a store
 abbrev pub counts_of : Store → Counts
@@ -64,6 +65,7 @@ counts_of store = record {
   cases = length store.bodies.cases;
   attachments = length store.bodies.attachments;
   instructions = length store.bodies.instructions;
+  blocks = length store.bodies.blocks;
 }
 
 -- a constant, among so many things
@@ -90,6 +92,7 @@ abbrev pub IsSoundItem : Counts → SpelledItem → Type 0
 IsSoundItem n (items.Type name ty) = ty < n.types
 IsSoundItem n (items.Global name constant ty value) = (ty < n.types) × (value < n.constants)
 IsSoundItem n (items.Declare name result first count) = (result < n.types) × (first + count ≤ n.parameters)
+IsSoundItem n (items.Define name result first count entry blocks) = (result < n.types) × (first + count ≤ n.parameters) × (entry + blocks ≤ n.blocks)
 IsSoundItem n _ = Unit {0}
 
 -- an operand

@@ -14,7 +14,9 @@ use Rattle.ir_grammar.specs.declared.spelled_bodies.SpelledOperation.TheVariants
 use Rattle.ir_grammar.specs.declared.spelled_bodies.SpelledInstruction.{SpelledInstruction}
 use Rattle.ir_grammar.specs.declared.spelled_bodies.SpelledBlock.{SpelledBlock}
 use Rattle.ir_grammar.specs.BodyStore.{BodyStore}
-use Rattle.ir_grammar.specs.Spelled.{Store, add_constant}
+use Rattle.ir_grammar.specs.declared.spelled.SpelledParameter.{SpelledParameter}
+use Rattle.ir_grammar.specs.declared.spelled.SpelledItem.TheVariants as items
+use Rattle.ir_grammar.specs.Spelled.{Store, add_constant, add_item}
 
 -- the store with these lists of bodies
 abbrev pub with_bodies : Store → BodyStore → Store
@@ -47,6 +49,16 @@ with_instructions found store = with_bodies store (record (store.bodies) { instr
 -- blocks are added in a row
 abbrev pub with_blocks : List SpelledBlock → Store → Store
 with_blocks found store = with_bodies store (record (store.bodies) { blocks = store.bodies.blocks ++ found })
+
+-- parameters are added in a row
+abbrev pub with_parameters : List SpelledParameter → Store → Store
+with_parameters found store = record store { parameters = store.parameters ++ found }
+
+-- the definition of a function with these parameters and blocks, which are added in a row each
+abbrev pub add_define : Token → ℕ → List SpelledParameter → List SpelledBlock → Store → Unit {0} × Store
+add_define name result parameters found store =
+    add_item (items.Define name result (length store.parameters) (length parameters) (length store.bodies.blocks) (length found))
+    (with_blocks found (with_parameters parameters store))
 
 -- a phi of this type, with these entries
 abbrev pub add_phi : ℕ → List SpelledIncoming → Store → SpelledOperation × Store

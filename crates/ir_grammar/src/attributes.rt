@@ -1,174 +1,39 @@
-ghost use Rattle.std.specs.Prelude.{◌≡◌};
-ghost use Rattle.ir_grammar.specs.Reading.{starts, take, first};
-ghost use Rattle.ir_grammar.specs.Words.{texts, attribute_words, refused_attributes};
+ghost use Rattle.std.specs.Prelude.{◌≡◌, ◌++◌, if◌then◌else◌};
+ghost use Rattle.ir_grammar.specs.declared.terminal.Failure.TheVariants.{Flawed};
+ghost use Rattle.ir_grammar.specs.Reading.{starts, take, first, bad, unsupported};
+ghost use Rattle.ir_grammar.specs.Words.{texts, common_attributes, attribute_words, refused_words, refused_attributes};
 ghost use Rattle.ir_grammar.specs.Grammar.{Gives, Reads, read};
 ghost use Rattle.ir_grammar.specs.Spelled.{store_of};
 ghost use Rattle.ir_grammar.specs.Attributes.{alignment, word_attribute, align_attribute, convention_attribute, text_attribute, attribute, attributes};
 
-use crate::words::{integers, texts};
+use crate::words::{common_attributes, integers, refused_words, texts};
 use crate::{Context, Failure, Kind, Reader, Terminal};
 
-/// Words that are attributes wherever one may stand, before them `$` words and `section`.
-const WORDS: [Kind; 20] = [
-    Kind::DollarWord,
-    Kind::Section,
-    Kind::Word,
-    Kind::DataLayout,
-    Kind::Triple,
-    Kind::TypeWord,
-    Kind::OpaqueWord,
-    Kind::Distinct,
-    Kind::Flag,
-    Kind::InRange,
-    Kind::SameSign,
-    Kind::Predicate,
-    Kind::Rmw,
-    Kind::Atomic,
-    Kind::Volatile,
-    Kind::Weak,
-    Kind::Order,
-    Kind::SyncScope,
-    Kind::To,
-    Kind::X,
-];
-
-/// Those behind a global's initializer, where a `section` is a part of its own.
-const GLOBAL_TAIL_WORDS: [Kind; 19] = [
-    Kind::DollarWord,
-    Kind::Word,
-    Kind::DataLayout,
-    Kind::Triple,
-    Kind::TypeWord,
-    Kind::OpaqueWord,
-    Kind::Distinct,
-    Kind::Flag,
-    Kind::InRange,
-    Kind::SameSign,
-    Kind::Predicate,
-    Kind::Rmw,
-    Kind::Atomic,
-    Kind::Volatile,
-    Kind::Weak,
-    Kind::Order,
-    Kind::SyncScope,
-    Kind::To,
-    Kind::X,
-];
-
-/// Those in a declare.
-const DECLARE_WORDS: [Kind; 21] = [
-    Kind::External,
-    Kind::DollarWord,
-    Kind::Section,
-    Kind::Word,
-    Kind::DataLayout,
-    Kind::Triple,
-    Kind::TypeWord,
-    Kind::OpaqueWord,
-    Kind::Distinct,
-    Kind::Flag,
-    Kind::InRange,
-    Kind::SameSign,
-    Kind::Predicate,
-    Kind::Rmw,
-    Kind::Atomic,
-    Kind::Volatile,
-    Kind::Weak,
-    Kind::Order,
-    Kind::SyncScope,
-    Kind::To,
-    Kind::X,
-];
-
-/// Those behind a declare's parameters.
-const DECLARE_TAIL_WORDS: [Kind; 20] = [
-    Kind::External,
-    Kind::Section,
-    Kind::Word,
-    Kind::DataLayout,
-    Kind::Triple,
-    Kind::TypeWord,
-    Kind::OpaqueWord,
-    Kind::Distinct,
-    Kind::Flag,
-    Kind::InRange,
-    Kind::SameSign,
-    Kind::Predicate,
-    Kind::Rmw,
-    Kind::Atomic,
-    Kind::Volatile,
-    Kind::Weak,
-    Kind::Order,
-    Kind::SyncScope,
-    Kind::To,
-    Kind::X,
-];
-
-/// Words that are Unsupported where an attribute may stand.
-const REFUSED: [Kind; 7] = [
-    Kind::External,
-    Kind::MetadataWord,
-    Kind::Target,
-    Kind::OtherWord,
-    Kind::OtherType,
-    Kind::LabelWord,
-    Kind::WideIntType,
-];
-
-/// Those in a declare.
-const REFUSED_IN_DECLARE: [Kind; 5] = [
-    Kind::Target,
-    Kind::OtherWord,
-    Kind::OtherType,
-    Kind::LabelWord,
-    Kind::WideIntType,
-];
-
-/// Those behind the type of a declare's parameter.
-const REFUSED_IN_PARAMETER: [Kind; 6] = [
-    Kind::MetadataWord,
-    Kind::Target,
-    Kind::OtherWord,
-    Kind::OtherType,
-    Kind::LabelWord,
-    Kind::WideIntType,
-];
-
-/// Those behind a declare's parameters.
-const REFUSED_IN_DECLARE_TAIL: [Kind; 6] = [
-    Kind::DollarWord,
-    Kind::MetadataWord,
-    Kind::OtherWord,
-    Kind::OtherType,
-    Kind::LabelWord,
-    Kind::WideIntType,
-];
-
-/// Words that are attributes in this place.
-fn attribute_words(context: Context) -> &'static [Kind]
-    ensures { result.now ≡ attribute_words context }
+/// Words that are attributes in this place, beside those that are attributes everywhere.
+fn more_attributes(context: Context) -> &'static [Kind]
+    ensures { result.now ++ common_attributes ≡ attribute_words context }
 {
     match context {
-        Context::Plain => &WORDS,
-        Context::Global => &WORDS,
-        Context::GlobalTail => &GLOBAL_TAIL_WORDS,
-        Context::Declare => &DECLARE_WORDS,
-        Context::Parameter => &DECLARE_WORDS,
-        Context::DeclareTail => &DECLARE_TAIL_WORDS,
+        Context::Plain | Context::Global => &[Kind::DollarWord, Kind::Section],
+        Context::GlobalTail => &[Kind::DollarWord],
+        Context::Declare | Context::Parameter => {
+            &[Kind::External, Kind::DollarWord, Kind::Section]
+        }
+        Context::DeclareTail => &[Kind::External, Kind::Section],
     }
 }
 
-/// Words that are Unsupported where an attribute may stand in this place.
-fn refused_attributes(context: Context) -> &'static [Kind]
-    ensures { result.now ≡ refused_attributes context }
+/// Words that are Unsupported where an attribute may stand in this place, beside those that are Unsupported everywhere.
+fn more_refused(context: Context) -> &'static [Kind]
+    ensures { result.now ++ refused_words ≡ refused_attributes context }
 {
     match context {
-        Context::Plain => &REFUSED,
-        Context::Global => &REFUSED,
-        Context::GlobalTail => &REFUSED,
-        Context::Declare => &REFUSED_IN_DECLARE,
-        Context::Parameter => &REFUSED_IN_PARAMETER,
-        Context::DeclareTail => &REFUSED_IN_DECLARE_TAIL,
+        Context::Plain | Context::Global | Context::GlobalTail => {
+            &[Kind::External, Kind::MetadataWord, Kind::Target]
+        }
+        Context::Declare => &[Kind::Target],
+        Context::Parameter => &[Kind::MetadataWord, Kind::Target],
+        Context::DeclareTail => &[Kind::DollarWord, Kind::MetadataWord],
     }
 }
 
@@ -190,12 +55,40 @@ impl<'a> Reader<'a> {
         Err(self.refuse(&[Kind::Power, Kind::GreatPower]))
     }
 
+    /// Whether a word that is an attribute in this place comes next.
+    fn next_is_word(&self, context: Context) -> bool
+        ensures { result ≡ starts (attribute_words context) self.now.rest.now }
+    {
+        self.next_either(more_attributes(context), common_attributes())
+    }
+
+    /// Takes a word that is an attribute in this place.
+    fn take_word(&mut self, context: Context) -> Result<Terminal, Failure>
+        ensures { Gives (λ t. (t, self.new.rest.now, store_of self.new.found)) result (take (attribute_words context) self.old.rest.now (store_of self.old.found)) }
+    {
+        self.take_either(more_attributes(context), common_attributes())
+    }
+
+    /// Whether a word that is Unsupported as an attribute in this place comes next.
+    fn next_is_refused(&self, context: Context) -> bool
+        ensures { result ≡ starts (refused_attributes context) self.now.rest.now }
+    {
+        self.next_either(more_refused(context), refused_words())
+    }
+
+    /// The failure where no attribute begins.
+    fn refuse_attribute(&self, context: Context) -> Failure
+        ensures { result ≡ Flawed (if starts (refused_attributes context) self.now.rest.now then unsupported self.now.rest.now else bad self.now.rest.now) }
+    {
+        self.refuse_either(more_refused(context), refused_words())
+    }
+
     /// word | word ( any )
     #[tactic(auto, unfolding(crate::specs::Attributes::word_attribute, crate::specs::Skipped::in_parens))]
     fn word_attribute(&mut self, context: Context, levels: u32) -> Result<(), Failure>
         ensures { Reads (λ x. x) result self.old self.new levels (word_attribute context) }
     {
-        self.take_among(attribute_words(context))?;
+        self.take_word(context)?;
         if self.next_is(Kind::OpenParen) {
             self.in_parens(levels)?;
         }
@@ -252,7 +145,7 @@ impl<'a> Reader<'a> {
     pub fn attribute(&mut self, context: Context, levels: u32) -> Result<(), Failure>
         ensures { Reads (λ x. x) result self.old self.new levels (attribute context) }
     {
-        if self.next_among(attribute_words(context)) {
+        if self.next_is_word(context) {
             return self.word_attribute(context, levels);
         }
         if self.next_is(Kind::Align) {
@@ -268,28 +161,23 @@ impl<'a> Reader<'a> {
             self.take(Kind::AttrNumber)?;
             return Ok(());
         }
-        Err(self.refuse(refused_attributes(context)))
+        Err(self.refuse_attribute(context))
     }
 
     /// Whether an attribute is read at the next token, if only to refuse it.
-    #[tactic(auto, using(crate::proofs::AttributeLists::attribute_kinds))]
+    #[tactic(auto, using(crate::proofs::AttributeLists::attribute_starts))]
     pub fn starts_attribute(&self, context: Context) -> bool
         ensures { result ≡ starts (first (attribute context)) self.now.rest.now }
     {
-        match self.rest {
-            [] => false,
-            [next, ..] => {
-                next.kind.is_among(attribute_words(context))
-                    || next.kind.is_among(&[
-                        Kind::Align,
-                        Kind::CallingConvention,
-                        Kind::Text,
-                        Kind::OtherLayout,
-                        Kind::AttrNumber,
-                    ])
-                    || next.kind.is_among(refused_attributes(context))
-            }
-        }
+        self.next_is_word(context)
+            || self.next_among(&[
+                Kind::Align,
+                Kind::CallingConvention,
+                Kind::Text,
+                Kind::OtherLayout,
+                Kind::AttrNumber,
+            ])
+            || self.next_is_refused(context)
     }
 
     /// attr*

@@ -7,11 +7,12 @@ ghost use Rattle.ir_grammar.specs.Conditions.{is_clear, goes_on, has, IsWellForm
 ghost use Rattle.ir_grammar.specs.Types.{type_rule};
 ghost use Rattle.ir_grammar.specs.Constants.{constant_rule};
 ghost use Rattle.ir_grammar.specs.Attributes.{attribute};
-ghost use Rattle.ir_grammar.specs.Laws.{ReadIsDerived, DerivedIsRead, BeforeFaultBegins, FaultEnds, FaultIsNoWhole, NestingGoesOn, TooFewLevels};
+ghost use Rattle.ir_grammar.specs.Laws.{ReadIsDerived, DerivedIsRead, BeforeFaultBegins, FaultEnds, FaultIsNoWhole, NestingGoesOn, TooFewLevels, UnsupportedIsListed, ListedIsUnsupported, FirstIsNotBad};
 
 /// The law of reading: by a rule of the shared grammar exactly what the grammar derives is read, with the value and the
 /// store of the derivation, and a fault is at the first token with which nothing is derived. A fault of nesting is at the
-/// bracket with which something is derived, but only with more levels.
+/// bracket with which something is derived, but only with more levels. Another fault is Unsupported exactly if a form that
+/// isn't taken there is at its token, and BadSyntax otherwise; a rule that is read at the kind of a token never gives BadSyntax at it.
 pub fn reading_is_deriving()
     ensures sound { ReadIsDerived }
     ensures complete { DerivedIsRead }
@@ -20,6 +21,9 @@ pub fn reading_is_deriving()
     ensures whole { FaultIsNoWhole }
     ensures nesting { NestingGoesOn }
     ensures levels { TooFewLevels }
+    ensures unsupported { UnsupportedIsListed }
+    ensures listed { ListedIsUnsupported }
+    ensures first { FirstIsNotBad }
 {}
 
 /// The conditions under which the law of reading says all: they hold of the rule of each name, and of types, constants and

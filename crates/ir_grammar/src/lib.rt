@@ -38,5 +38,6 @@ pub use spelled_bodies::{
 };
 pub use terminal::{Failure, Flaw, Terminal};
 pub use words::{
-    commas, globals, integers, locals, meta_names, refused_types, refused_values, texts, voids,
+    commas, globals, integers, locals, meta_names, refused_types, refused_values, refused_words,
+    texts, voids,
 };

@@ -1,10 +1,11 @@
-ghost use Rattle.std.specs.Prelude.{◌≡◌, [], ◌∷◌, length, if◌then◌else◌, Ok};
+ghost use Rattle.std.specs.Prelude.{◌≡◌, [], ◌∷◌, ◌++◌, length, if◌then◌else◌, Ok};
 ghost use Rattle.ir_grammar.specs.declared.terminal.Failure.TheVariants.{Flawed};
 ghost use Rattle.ir_grammar.specs.Reading.{starts, take, bad, unsupported};
 ghost use Rattle.ir_grammar.specs.Words.{commas};
 ghost use Rattle.ir_grammar.specs.Grammar.{Gives, deeper};
 ghost use Rattle.ir_grammar.specs.BodyStore.{no_bodies};
 ghost use Rattle.ir_grammar.specs.Spelled.{store_of, bodies_of, added, with_rest, add_type, add_struct_type, add_constant, add_array, add_struct, add_address, add_item, add_declare};
+ghost use Rattle.ir_grammar.specs.SpelledBodies.{add_define};
 
 use crate::words::commas;
 use crate::{
@@ -26,7 +27,7 @@ pub struct Spellings {
     pub elements: Vec<TypedConstant>,
     /// The indices of `getelementptr`.
     pub indices: Vec<TypedIndex>,
-    /// The parameters of declares.
+    /// The parameters of functions, declared or defined.
     pub parameters: Vec<SpelledParameter>,
     /// The items in order of the text.
     pub items: Vec<SpelledItem>,
@@ -136,17 +137,60 @@ impl<'a> Reader<'a> {
         })
     }
 
+    /// The failure where the next token is a form that this program doesn't take.
+    fn unsupported(&self) -> Failure
+        ensures { result ≡ Flawed (unsupported self.now.rest.now) }
+    {
+        Failure::Flawed(Flaw {
+            fault: Fault::Unsupported,
+            left: self.rest.len(),
+        })
+    }
+
     /// The failure where nothing goes on with the next token, and one of these kinds is Unsupported.
     pub fn refuse(&self, kinds: &[Kind]) -> Failure
         ensures { result ≡ Flawed (if starts kinds.now self.now.rest.now then unsupported self.now.rest.now else bad self.now.rest.now) }
     {
         if self.next_among(kinds) {
-            Failure::Flawed(Flaw {
-                fault: Fault::Unsupported,
-                left: self.rest.len(),
-            })
+            self.unsupported()
         } else {
             self.bad()
+        }
+    }
+
+    /// Whether a token of one of these kinds comes next, or of one of the others.
+    #[tactic(auto, using(crate::proofs::KindSets::starts_append))]
+    pub fn next_either(&self, kinds: &[Kind], others: &[Kind]) -> bool
+        ensures { result ≡ starts (kinds.now ++ others.now) self.now.rest.now }
+    {
+        self.next_among(kinds) || self.next_among(others)
+    }
+
+    /// The failure where nothing goes on with the next token, and one of these kinds or of the others is Unsupported.
+    pub fn refuse_either(&self, kinds: &[Kind], others: &[Kind]) -> Failure
+        ensures { result ≡ Flawed (if starts (kinds.now ++ others.now) self.now.rest.now then unsupported self.now.rest.now else bad self.now.rest.now) }
+    {
+        if self.next_either(kinds, others) {
+            self.unsupported()
+        } else {
+            self.bad()
+        }
+    }
+
+    /// Takes a token of one of these kinds or of the others.
+    pub fn take_either(&mut self, kinds: &[Kind], others: &[Kind]) -> Result<Terminal, Failure>
+        ensures { Gives (λ t. (t, self.new.rest.now, store_of self.new.found)) result (take (kinds.now ++ others.now) self.old.rest.now (store_of self.old.found)) }
+    {
+        match self.rest {
+            [] => Err(self.bad()),
+            [next, rest @ ..] => {
+                if self.next_either(kinds, others) {
+                    self.rest = rest;
+                    Ok(*next)
+                } else {
+                    Err(self.bad())
+                }
+            }
         }
     }
 
@@ -303,6 +347,32 @@ impl<'a> Reader<'a> {
             result: result_type,
             first,
             count,
+        })
+    }
+
+    /// Adds the definition of a function with these parameters and blocks.
+    pub fn add_define(
+        &mut self,
+        name: Token,
+        result_type: usize,
+        parameters: &[SpelledParameter],
+        found: &[SpelledBlock],
+    ) -> Result<(), Failure>
+        ensures { Gives (λ x. (x, self.new.rest.now, store_of self.new.found)) result (with_rest (add_define name result_type parameters.now found.now (store_of self.old.found)) self.old.rest.now) }
+    {
+        let first = self.found.parameters.len();
+        let count = parameters.len();
+        self.found.parameters.extend_from_slice(parameters)?;
+        let entry = self.found.bodies.blocks.len();
+        let blocks = found.len();
+        self.found.bodies.blocks.extend_from_slice(found)?;
+        self.add_item(SpelledItem::Define {
+            name,
+            result: result_type,
+            first,
+            count,
+            entry,
+            blocks,
         })
     }
 }

@@ -117,6 +117,16 @@ pub enum SpelledItem {
         first: usize,
         count: usize,
     },
+    /// A function that is defined, by its name, with the number of its result's type, the `count` parameters from `first` on of
+    /// the list of parameters, and the `blocks` blocks of its body from `entry` on of the list of blocks.
+    Define {
+        name: Token,
+        result: usize,
+        first: usize,
+        count: usize,
+        entry: usize,
+        blocks: usize,
+    },
     /// A metadata node, by its number.
     Node {
         number: Token,

@@ -1,5 +1,5 @@
 ghost use Rattle.std.specs.Prelude.{◌≡◌};
-ghost use Rattle.ir_grammar.specs.Words.{integers, texts, globals, commas, voids, meta_names, locals, refused_types, refused_values};
+ghost use Rattle.ir_grammar.specs.Words.{integers, texts, globals, commas, voids, meta_names, locals, common_attributes, refused_words, refused_types, refused_values};
 
 use crate::{Context, Kind};
 
@@ -12,6 +12,30 @@ const INTEGERS: [Kind; 6] = [
     Kind::Great,
 ];
 
+/// Words that are attributes wherever one may stand.
+const COMMON_ATTRIBUTES: [Kind; 18] = [
+    Kind::Word,
+    Kind::DataLayout,
+    Kind::Triple,
+    Kind::TypeWord,
+    Kind::OpaqueWord,
+    Kind::Distinct,
+    Kind::Flag,
+    Kind::InRange,
+    Kind::SameSign,
+    Kind::Predicate,
+    Kind::Rmw,
+    Kind::Atomic,
+    Kind::Volatile,
+    Kind::Weak,
+    Kind::Order,
+    Kind::SyncScope,
+    Kind::To,
+    Kind::X,
+];
+
+/// What is refused as a value; from number 7 on as a type; from number 10 on wherever a type, a value or an attribute may
+/// stand.
 const REFUSED_VALUES: [Kind; 14] = [
     Kind::Float,
     Kind::Binary,
@@ -22,24 +46,6 @@ const REFUSED_VALUES: [Kind; 14] = [
     Kind::ExtractValue,
     Kind::External,
     Kind::MetadataWord,
-    Kind::Target,
-    Kind::OtherWord,
-    Kind::OtherType,
-    Kind::LabelWord,
-    Kind::WideIntType,
-];
-
-const REFUSED_TYPES: [Kind; 7] = [
-    Kind::External,
-    Kind::MetadataWord,
-    Kind::Target,
-    Kind::OtherWord,
-    Kind::OtherType,
-    Kind::LabelWord,
-    Kind::WideIntType,
-];
-
-const REFUSED_TYPES_IN_DECLARE: [Kind; 5] = [
     Kind::Target,
     Kind::OtherWord,
     Kind::OtherType,
@@ -96,17 +102,29 @@ pub fn locals() -> &'static [Kind]
     &[Kind::Local, Kind::LocalDefinition]
 }
 
+/// Words that are attributes wherever one may stand.
+pub(crate) fn common_attributes() -> &'static [Kind]
+    ensures { result.now ≡ common_attributes }
+{
+    &COMMON_ATTRIBUTES
+}
+
+/// Words that are Unsupported where a type, a value or an attribute may stand.
+pub fn refused_words() -> &'static [Kind]
+    ensures { result.now ≡ refused_words }
+{
+    &REFUSED_VALUES[10..]
+}
+
 /// Words that are Unsupported where a type may stand.
 pub fn refused_types(context: Context) -> &'static [Kind]
     ensures { result.now ≡ refused_types context }
 {
     match context {
-        Context::Plain => &REFUSED_TYPES,
-        Context::Global => &REFUSED_TYPES,
-        Context::GlobalTail => &REFUSED_TYPES,
-        Context::Declare => &REFUSED_TYPES_IN_DECLARE,
-        Context::Parameter => &REFUSED_TYPES,
-        Context::DeclareTail => &REFUSED_TYPES_IN_DECLARE,
+        Context::Declare | Context::DeclareTail => &REFUSED_VALUES[9..],
+        Context::Plain | Context::Global | Context::GlobalTail | Context::Parameter => {
+            &REFUSED_VALUES[7..]
+        }
     }
 }
 

@@ -9,10 +9,10 @@ use Rattle.std.proofs.lemmas.Bool.Decides.{nat_tests}
 use Rattle.ir_text.specs.TokenText.{significant}
 use Rattle.ir_names.specs.Faults.{is_number}
 
-digit_is : (b : ℕ) → is_ascii_digit b ≡ true → digit_value b ≡ b - 48
+pub digit_is : (b : ℕ) → is_ascii_digit b ≡ true → digit_value b ≡ b - 48
 digit_is b h = grind (arith, nat_tests)
 
-digit_range : (b : ℕ) → is_ascii_digit b ≡ true → (48 ≤ b) × (b ≤ 57)
+pub digit_range : (b : ℕ) → is_ascii_digit b ≡ true → (48 ≤ b) × (b ≤ 57)
 digit_range b h = (grind (arith, nat_tests), grind (arith, nat_tests))
 
 and_left : (a b : Bool) → (a && b) ≡ true → a ≡ true
@@ -23,10 +23,10 @@ and_right : (a b : Bool) → (a && b) ≡ true → b ≡ true
 and_right true b h = h
 and_right false b h = cc
 
-first_digit : (b : ℕ) (rest : List ℕ) → is_number (b ∷ rest) ≡ true → is_ascii_digit b ≡ true
+pub first_digit : (b : ℕ) (rest : List ℕ) → is_number (b ∷ rest) ≡ true → is_ascii_digit b ≡ true
 first_digit b rest h = and_left (is_ascii_digit b) (is_number rest) h
 
-other_digits : (b : ℕ) (rest : List ℕ) → is_number (b ∷ rest) ≡ true → is_number rest ≡ true
+pub other_digits : (b : ℕ) (rest : List ℕ) → is_number (b ∷ rest) ≡ true → is_number rest ≡ true
 other_digits b rest h = and_right (is_ascii_digit b) (is_number rest) h
 
 -- digits behind a sum
@@ -41,7 +41,7 @@ after_sum x y (b ∷ rest) =
     omega arith
 
 -- digits stay below one more in front of them
-after_below : (x : ℕ) (digits : List ℕ) → is_number digits ≡ true → digits_value_after 10 x digits < (x + 1) * 10 ^ length digits
+pub after_below : (x : ℕ) (digits : List ℕ) → is_number digits ≡ true → digits_value_after 10 x digits < (x + 1) * 10 ^ length digits
 after_below x [] h = omega arith
 after_below x (b ∷ rest) h =
     let range : (48 ≤ b) × (b ≤ 57) = digit_range b (first_digit b rest h) in
@@ -54,7 +54,7 @@ after_below x (b ∷ rest) h =
     omega arith
 
 -- and reach what stands in front of them
-after_least : (x : ℕ) (digits : List ℕ) → x * 10 ^ length digits ≤ digits_value_after 10 x digits
+pub after_least : (x : ℕ) (digits : List ℕ) → x * 10 ^ length digits ≤ digits_value_after 10 x digits
 after_least x digits = let e : digits_value_after 10 (x + 0) digits ≡ x * 10 ^ length digits + digits_value_after 10 0 digits = after_sum x 0 digits in
     let same : digits_value_after 10 (x + 0) digits ≡ digits_value_after 10 x digits = ap (λ n. digits_value_after 10 n digits) (omega arith) in omega arith
 

@@ -7,7 +7,7 @@ use Rattle.std.proofs.lemmas.Bool.Decides.{nat_tests}
 use Rattle.ir_text.specs.Names.{name_key}
 use Rattle.ir_core.specs.declared.token.Token.{Token}
 use Rattle.ir_grammar.specs.declared.spelled.SpelledItem.{SpelledItem}
-use Rattle.ir_grammar.specs.declared.spelled.SpelledItem.TheVariants.{Skipped, «Type» as TypeItem, Global, Used, Declare, Node, NodeList}
+use Rattle.ir_grammar.specs.declared.spelled.SpelledItem.TheVariants.{Skipped, «Type» as TypeItem, Global, Used, Declare, Define, Node, NodeList}
 use Rattle.ir_names.specs.Keys.{behind_sigil, type_key, global_key, item_key, item_keys, item_at, first_with, meant}
 use Rattle.ir_names.specs.Sets.{DefinesType, DefinesGlobal}
 
@@ -60,6 +60,7 @@ type_by_key source token (TypeItem name ty) e = tt
 type_by_key source token (Global name constant ty value) e = absurd (apart 64 37 _ (name_key (behind_sigil source token)) refl e)
 type_by_key source token Used e = absurd (empty_apart 37 (name_key (behind_sigil source token)) e)
 type_by_key source token (Declare name result first count) e = absurd (apart 64 37 _ (name_key (behind_sigil source token)) refl e)
+type_by_key source token (Define name result first count entry blocks) e = absurd (apart 64 37 _ (name_key (behind_sigil source token)) refl e)
 type_by_key source token (Node number) e = absurd (apart 35 37 _ (name_key (behind_sigil source token)) refl e)
 type_by_key source token (NodeList name) e = absurd (apart 33 37 _ (name_key (behind_sigil source token)) refl e)
 
@@ -69,5 +70,6 @@ global_by_key source token (TypeItem name ty) e = absurd (apart 37 64 _ (name_ke
 global_by_key source token (Global name constant ty value) e = tt
 global_by_key source token Used e = absurd (empty_apart 64 (name_key (behind_sigil source token)) e)
 global_by_key source token (Declare name result first count) e = tt
+global_by_key source token (Define name result first count entry blocks) e = tt
 global_by_key source token (Node number) e = absurd (apart 35 64 _ (name_key (behind_sigil source token)) refl e)
 global_by_key source token (NodeList name) e = absurd (apart 33 64 _ (name_key (behind_sigil source token)) refl e)

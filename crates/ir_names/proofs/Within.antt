@@ -8,7 +8,7 @@ use Rattle.ir_grammar.specs.declared.spelled.SpelledType.TheVariants as types
 use Rattle.ir_grammar.specs.declared.spelled.SpelledConstant.{SpelledConstant}
 use Rattle.ir_grammar.specs.declared.spelled.SpelledConstant.TheVariants as constants
 use Rattle.ir_grammar.specs.declared.spelled.SpelledItem.{SpelledItem}
-use Rattle.ir_grammar.specs.declared.spelled.SpelledItem.TheVariants.{Skipped, «Type» as TypeItem, Global, Used, Declare, Node, NodeList}
+use Rattle.ir_grammar.specs.declared.spelled.SpelledItem.TheVariants.{Skipped, «Type» as TypeItem, Global, Used, Declare, Define, Node, NodeList}
 use Rattle.ir_grammar.specs.SoundStore.{Counts, IsSoundItem}
 use Rattle.ir_names.specs.Keys.{type_key, global_key, item_at, first_with, meant}
 use Rattle.ir_names.specs.Meanings.{type_or, lead, leads_from, numbered, number_at, variable}
@@ -33,6 +33,7 @@ or_within n j (Some (TypeItem name ty)) within h = h
 or_within n j (Some (Global name constant ty value)) within h = within
 or_within n j (Some Used) within h = within
 or_within n j (Some (Declare name result first count)) within h = within
+or_within n j (Some (Define name result first count entry blocks)) within h = within
 or_within n j (Some (Node number)) within h = within
 or_within n j (Some (NodeList name)) within h = within
 
@@ -66,6 +67,7 @@ numbers_within m n (TypeItem name ty ∷ rest) room = All-cons (IsBelow n) None 
 numbers_within m n (Global name constant ty value ∷ rest) room = All-cons (IsBelow n) (Some m) (numbered (m + 1) rest) (omega arith) (numbers_within (m + 1) n rest (omega arith))
 numbers_within m n (Used ∷ rest) room = All-cons (IsBelow n) None (numbered m rest) tt (numbers_within m n rest room)
 numbers_within m n (Declare name result first count ∷ rest) room = All-cons (IsBelow n) None (numbered m rest) tt (numbers_within m n rest room)
+numbers_within m n (Define name result first count entry blocks ∷ rest) room = All-cons (IsBelow n) None (numbered m rest) tt (numbers_within m n rest room)
 numbers_within m n (Node number ∷ rest) room = All-cons (IsBelow n) None (numbered m rest) tt (numbers_within m n rest room)
 numbers_within m n (NodeList name ∷ rest) room = All-cons (IsBelow n) None (numbered m rest) tt (numbers_within m n rest room)
 

@@ -16,7 +16,7 @@ use Rattle.ir_grammar.specs.declared.spelled.SpelledConstant.{SpelledConstant}
 use Rattle.ir_grammar.specs.declared.spelled.SpelledConstant.TheVariants.{Local, Global as GlobalName}
 use Rattle.ir_grammar.specs.declared.spelled.SpelledParameter.{SpelledParameter}
 use Rattle.ir_grammar.specs.declared.spelled.SpelledItem.{SpelledItem}
-use Rattle.ir_grammar.specs.declared.spelled.SpelledItem.TheVariants.{Skipped, «Type» as TypeItem, Global, Used, Declare, Node, NodeList}
+use Rattle.ir_grammar.specs.declared.spelled.SpelledItem.TheVariants.{Skipped, «Type» as TypeItem, Global, Used, Declare, Define, Node, NodeList}
 use Rattle.ir_grammar.specs.Spelled.{Store}
 use Rattle.ir_names.specs.declared.fault.NameFault.{NameFault}
 use Rattle.ir_names.specs.Keys.{behind_sigil, type_key, global_key, item_key, item_keys, first_with, meant}
@@ -46,6 +46,7 @@ item_name (TypeItem name ty) = Some name
 item_name (Global name constant ty value) = Some name
 item_name Used = None
 item_name (Declare name result first count) = Some name
+item_name (Define name result first count entry blocks) = Some name
 item_name (Node number) = Some number
 item_name (NodeList name) = Some name
 
@@ -53,6 +54,7 @@ item_name (NodeList name) = Some name
 abbrev pub is_constructors : List ℕ → SpelledItem → Bool
 is_constructors source (Global name constant ty value) = is_constructor_list (bytes_of source name)
 is_constructors source (Declare name result first count) = is_constructor_list (bytes_of source name)
+is_constructors source (Define name result first count entry blocks) = is_constructor_list (bytes_of source name)
 is_constructors source other = false
 
 -- the faults at an item's own name: an earlier item has it, or nothing may have it
@@ -108,7 +110,7 @@ parameter_keys source parameters = map (λ p. parameter_key source p.name) param
 abbrev pub parameter_list_faults : List ℕ → List SpelledParameter → List NameFault
 parameter_list_faults source parameters = parameters_faults source (parameter_keys source parameters) 0 0 parameters
 
--- the faults at the names of an item's parameters
+-- the faults at the names of a declare's parameters; those of a definition share a set with what its body names
 abbrev pub declare_faults : List ℕ → List SpelledParameter → SpelledItem → List NameFault
 declare_faults source parameters (Declare name result first count) = parameter_list_faults source (take count (drop first parameters))
 declare_faults source parameters other = []
@@ -122,6 +124,7 @@ type_faults source keys items other = []
 abbrev pub meaning_faults : Token → Option SpelledItem → List NameFault
 meaning_faults token None = fault_at Unknown token
 meaning_faults token (Some (Declare name result first count)) = fault_at Unsupported token
+meaning_faults token (Some (Define name result first count entry blocks)) = fault_at Unsupported token
 meaning_faults token (Some other) = []
 
 -- the faults at a constant: it is a local, or a global's name that can't stand there

@@ -8,7 +8,7 @@ use Rattle.ir_core.specs.Tokens.{bytes_of}
 use Rattle.ir_text.specs.TokenText.{number_behind_bang}
 use Rattle.ir_text.specs.Names.{name_key}
 use Rattle.ir_grammar.specs.declared.spelled.SpelledItem.{SpelledItem}
-use Rattle.ir_grammar.specs.declared.spelled.SpelledItem.TheVariants.{Skipped, «Type» as TypeItem, Global, Used, Declare, Node, NodeList}
+use Rattle.ir_grammar.specs.declared.spelled.SpelledItem.TheVariants.{Skipped, «Type» as TypeItem, Global, Used, Declare, Define, Node, NodeList}
 
 -- the text behind a token's sigil, `%` or `@`
 abbrev pub behind_sigil : List ℕ → Token → List ℕ
@@ -37,6 +37,7 @@ item_key source (TypeItem name ty) = type_key source name
 item_key source (Global name constant ty value) = global_key source name
 item_key source Used = []
 item_key source (Declare name result first count) = global_key source name
+item_key source (Define name result first count entry blocks) = global_key source name
 item_key source (Node number) = node_key source number
 item_key source (NodeList name) = list_key source name
 

@@ -27,6 +27,9 @@ fn beside_meaning(
         Some(SpelledItem::Declare { .. }) => {
             beside_fault_if(first, true, Fault::Unsupported, *token)
         }
+        Some(SpelledItem::Define { .. }) => {
+            beside_fault_if(first, true, Fault::Unsupported, *token)
+        }
         Some(_) => first,
     }
 }

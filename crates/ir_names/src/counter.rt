@@ -15,7 +15,7 @@ pub(crate) struct Counter<'a> {
 }
 
 /// Whether digits write a number; none write 0.
-pub(crate) fn is_number(text: &[u8]) -> bool
+pub fn is_number(text: &[u8]) -> bool
     ensures { result ≡ is_number text.now }
 {
     text.iter().all(|b| b.is_ascii_digit())

@@ -21,6 +21,7 @@ fn item_name(item: &SpelledItem) -> Option<Token>
         SpelledItem::Global { name, .. } => Some(*name),
         SpelledItem::Used => None,
         SpelledItem::Declare { name, .. } => Some(*name),
+        SpelledItem::Define { name, .. } => Some(*name),
         SpelledItem::Node { number } => Some(*number),
         SpelledItem::NodeList { name } => Some(*name),
     }
@@ -33,6 +34,7 @@ fn is_constructors(source: &[u8], item: &SpelledItem) -> bool
     match item {
         SpelledItem::Global { name, .. } => is_constructor_list(text_of(source, name)),
         SpelledItem::Declare { name, .. } => is_constructor_list(text_of(source, name)),
+        SpelledItem::Define { name, .. } => is_constructor_list(text_of(source, name)),
         _ => false,
     }
 }

@@ -53,7 +53,7 @@ fn earlier(first: Option<NameFault>, fault: NameFault) -> Option<NameFault>
 }
 
 /// The first so far, beside this fault at this token if it stands there.
-pub(crate) fn beside_fault_if(
+pub fn beside_fault_if(
     first: Option<NameFault>,
     stands: bool,
     fault: Fault,

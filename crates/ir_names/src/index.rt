@@ -11,7 +11,7 @@ use std::marker::Model;
 
 /// Keys in a row, and where each stands first. Contracts see the row of keys.
 #[derive(Drop)]
-pub(crate) struct Index<'a> {
+pub struct Index<'a> {
     keys: &'a [Vec<u8>],
     places: BTreeMap<&'a [u8], usize>,
 }
@@ -62,7 +62,7 @@ fn places_of<'a>(
 
 impl<'a> Index<'a> {
     /// The index of keys in a row. The only error is want of memory.
-    pub(crate) fn new(alloc: Global, keys: &'a [Vec<u8>]) -> Result<Index<'a>, OutOfMemory>
+    pub fn new(alloc: Global, keys: &'a [Vec<u8>]) -> Result<Index<'a>, OutOfMemory>
         ensures { IfOk result (λ index. index ≡ keys_in keys.now) }
     {
         let places = places_of(alloc, keys)?;
@@ -70,14 +70,14 @@ impl<'a> Index<'a> {
     }
 
     /// The number of the first key that is this one, or none.
-    pub(crate) fn first_with(&self, key: &[u8]) -> Option<usize>
+    pub fn first_with(&self, key: &[u8]) -> Option<usize>
         ensures { result ≡ first_with key.now self.now }
     {
         self.places.get(key).copied()
     }
 
     /// Whether a key with number `i` stands at a lower number too.
-    pub(crate) fn is_repeated(&self, i: usize, key: &[u8]) -> bool
+    pub fn is_repeated(&self, i: usize, key: &[u8]) -> bool
         ensures { result ≡ is_repeated self.now i key.now }
     {
         match self.first_with(key) {

@@ -11,7 +11,7 @@ use ir_text::{name_key, number_behind_bang};
 use std::alloc::Global;
 
 /// The token's bytes in the text. A token that reaches past the end has only those that are there.
-pub(crate) fn text_of<'a>(source: &'a [u8], token: &Token) -> &'a [u8]
+pub fn text_of<'a>(source: &'a [u8], token: &Token) -> &'a [u8]
     ensures { result.now ≡ bytes_of source.now token.now }
 {
     let to = source.len().min(token.to as usize);
@@ -20,7 +20,7 @@ pub(crate) fn text_of<'a>(source: &'a [u8], token: &Token) -> &'a [u8]
 }
 
 /// The text behind a token's sigil, `%` or `@`.
-pub(crate) fn behind_sigil<'a>(source: &'a [u8], token: &Token) -> &'a [u8]
+pub fn behind_sigil<'a>(source: &'a [u8], token: &Token) -> &'a [u8]
     ensures { result.now ≡ behind_sigil source.now token.now }
 {
     let text = text_of(source, token);
@@ -49,11 +49,7 @@ pub(crate) fn type_key(alloc: Global, source: &[u8], token: &Token) -> Result<Ve
 }
 
 /// The key of a global variable's or a function's name.
-pub(crate) fn global_key(
-    alloc: Global,
-    source: &[u8],
-    token: &Token,
-) -> Result<Vec<u8>, OutOfMemory>
+pub fn global_key(alloc: Global, source: &[u8], token: &Token) -> Result<Vec<u8>, OutOfMemory>
     ensures { IfOk result (λ key. key.items ≡ global_key source.now token.now) }
 {
     let key = name_key(alloc, behind_sigil(source, token))?;
@@ -86,6 +82,7 @@ pub(crate) fn item_key(
         SpelledItem::Global { name, .. } => global_key(alloc, source, name),
         SpelledItem::Used => Ok(Vec::new(alloc)),
         SpelledItem::Declare { name, .. } => global_key(alloc, source, name),
+        SpelledItem::Define { name, .. } => global_key(alloc, source, name),
         SpelledItem::Node { number } => node_key(alloc, source, number),
         SpelledItem::NodeList { name } => list_key(alloc, source, name),
     }

@@ -1,4 +1,4 @@
-ghost use Rattle.std.specs.Prelude.{◌≡◌, ℕ, ◌<◌, List, [], length, All, Contains, Some, None, IfSome, false};
+ghost use Rattle.std.specs.Prelude.{◌≡◌, ◌↔◌, ℕ, ◌<◌, List, [], length, All, Contains, Some, None, IfSome, false};
 ghost use Rattle.ir_core.specs.declared.token.Token.{Token};
 ghost use Rattle.ir_grammar.specs.declared.spelled.SpelledItem.{SpelledItem};
 ghost use Rattle.ir_grammar.specs.Spelled.{Store};
@@ -7,6 +7,8 @@ ghost use Rattle.ir_names.specs.declared.fault.NameFault.{NameFault};
 ghost use Rattle.ir_names.specs.First.{first_fault, is_before};
 ghost use Rattle.ir_names.specs.Keys.{type_key, global_key, item_key, item_keys, meant};
 ghost use Rattle.ir_names.specs.Meanings.{leads_of, variables_of};
+ghost use Rattle.ir_text.specs.Names.{name_key};
+ghost use Rattle.ir_names.specs.OneName.{IsOneName};
 ghost use Rattle.ir_names.specs.Sets.{DefinesType, DefinesGlobal, variables_in};
 
 /// The first fault is one of the faults, none of them comes before it, and there is one wherever there are faults.
@@ -33,4 +35,9 @@ pub fn what_names_stand_for_is_there()
     ensures one_a_constant { (source : List ℕ) (items : List SpelledItem) (store : Store) → length (variables_of source items store) ≡ length store.constants }
     ensures variables { (source : List ℕ) (items : List SpelledItem) (store : Store)
         → All (λ v. IfSome v (λ n. n < length (variables_in items))) (variables_of source items store) }
+{}
+
+/// Two names in one set have one key exactly if they are one name.
+pub fn one_name_has_one_key()
+    ensures { (name other : List ℕ) → (name_key name ≡ name_key other) ↔ IsOneName name other }
 {}

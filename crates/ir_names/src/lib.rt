@@ -16,9 +16,13 @@ mod references;
 mod resolve;
 mod types;
 
-pub use fault::{NameFault, NamesError};
+pub use counter::is_number;
+pub use fault::{NameFault, NamesError, beside_fault_if};
+pub use index::Index;
+pub use keys::{behind_sigil, global_key, text_of};
 pub use laws::{
-    a_name_means_what_has_it, the_first_fault_is_before_all_others, what_names_stand_for_is_there,
+    a_name_means_what_has_it, one_name_has_one_key, the_first_fault_is_before_all_others,
+    what_names_stand_for_is_there,
 };
 pub use references::References;
 pub use resolve::resolve_names;

@@ -1,12 +1,13 @@
 -- The laws that tie what a body spells to what the grammar derives.
 use Rattle.std.specs.Prelude.{ℕ, List, [], ◌∷◌, ◌++◌, suc, length, ◌≡◌, Ok, Err}
-use Rattle.ir_core.specs.declared.faults.Fault.TheVariants.{TooLarge}
+use Rattle.ir_core.specs.declared.faults.Fault.TheVariants.{Unsupported, TooLarge}
 use Rattle.ir_core.specs.declared.faults.Limit.TheVariants.{Nesting}
 use Rattle.ir_grammar.specs.declared.spelled_bodies.SpelledBlock.{SpelledBlock}
 use Rattle.ir_grammar.specs.declared.terminal.Terminal.{Terminal}
 use Rattle.ir_grammar.specs.declared.terminal.Flaw.{Flaw}
 use Rattle.ir_grammar.specs.Rules.{base, list, Derives}
 use Rattle.ir_grammar.specs.Prefixes.{Begins}
+use Rattle.ir_grammar.specs.Forms.{StandsListed}
 use Rattle.ir_grammar.specs.Names.{block, shared}
 use Rattle.ir_grammar.specs.Spelled.{Store}
 use Rattle.ir_grammar.specs.Grammar.{production, read, nesting_limit}
@@ -54,3 +55,14 @@ FaultEnds = (front : List Terminal) (token : Terminal) (rest : List Terminal) (s
 abbrev pub FaultIsNoBody : Type 0
 FaultIsNoBody = (tokens : List Terminal) (store : Store) (e : Flaw) → read nesting_limit function_body tokens store ≡ Err e → (e.fault ≡ TooLarge Nesting → ⊥)
     → (levels : ℕ) (blocks : List SpelledBlock) (after : Store) → IsBody levels tokens store blocks after → ⊥
+
+-- a fault that is Unsupported is at a form that isn't taken there
+abbrev pub UnsupportedIsListed : Type 0
+UnsupportedIsListed = (tokens : List Terminal) (store : Store) (e : Flaw) → read nesting_limit function_body tokens store ≡ Err e → e.fault ≡ Unsupported
+    → (front : List Terminal) × (token : Terminal) × (rest : List Terminal) × (tokens ≡ front ++ token ∷ rest) × (e.left ≡ suc (length rest)) × StandsListed shared production (list (base block)) function_body front store token
+
+-- a fault at a form that isn't taken there is Unsupported, one of nesting aside
+abbrev pub ListedIsUnsupported : Type 0
+ListedIsUnsupported = (front : List Terminal) (token : Terminal) (rest : List Terminal) (store : Store) (e : Flaw)
+    → read nesting_limit function_body (front ++ token ∷ rest) store ≡ Err e → e.left ≡ suc (length rest) → (e.fault ≡ TooLarge Nesting → ⊥)
+    → StandsListed shared production (list (base block)) function_body front store token → e.fault ≡ Unsupported

@@ -11,7 +11,7 @@ ghost use Rattle.ir_grammar.specs.Blocks.{result_name, instruction_rule, record_
 ghost use Rattle.ir_read_body.specs.Views.{with_ones, AddsKept};
 
 use crate::adding::{add_block, add_instruction};
-use crate::bodies::{body, refused_bodies, starts_plain};
+use crate::bodies::{body, next_is_refused, starts_plain};
 use crate::terminators::{branch_rest, return_rest, switch_rest, unreachable_rest};
 use ir_core::Token;
 use ir_grammar::{
@@ -114,7 +114,7 @@ fn starts_part(reader: &Reader, entry: bool) -> bool
         || reader.next_among(locals())
         || starts_plain(reader, entry)
         || reader.next_among(&[Kind::Call, Kind::TailWord])
-        || reader.next_among(refused_bodies(entry))
+        || next_is_refused(reader, entry)
 }
 
 /// The instructions, and one more if it is there.

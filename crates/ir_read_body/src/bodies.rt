@@ -1,6 +1,9 @@
-ghost use Rattle.std.specs.Prelude.{◌≡◌, [], ◌∷◌};
+ghost use Rattle.std.specs.Prelude.{◌≡◌, [], ◌∷◌, ◌++◌, if◌then◌else◌};
+ghost use Rattle.ir_grammar.specs.declared.context.Context.TheVariants as at;
+ghost use Rattle.ir_grammar.specs.declared.terminal.Failure.TheVariants.{Flawed};
+ghost use Rattle.ir_grammar.specs.Words.{refused_types};
 ghost use Rattle.ir_grammar.specs.declared.kind.Kind.TheVariants as k;
-ghost use Rattle.ir_grammar.specs.Reading.{starts, first};
+ghost use Rattle.ir_grammar.specs.Reading.{starts, first, bad, unsupported};
 ghost use Rattle.ir_grammar.specs.Rules.{one, ◌⨾◌};
 ghost use Rattle.ir_grammar.specs.Grammar.{Reads};
 ghost use Rattle.ir_grammar.specs.Instructions.{binary_rest, icmp_rest, cast_rest, freeze_rest, select_rest, phi_rest, load_rest, store_rest, step_rest, fence_rest, rmw_rest, exchange_rest, extract_rest};
@@ -13,7 +16,9 @@ use crate::instructions::{
 };
 use crate::memory::{alloca_rest, load_rest, step_rest, store_rest};
 use crate::phis::phi_rest;
-use ir_grammar::{Failure, Kind, Reader, SpelledAttachment, SpelledOperation, Terminal};
+use ir_grammar::{
+    Context, Failure, Kind, Reader, SpelledAttachment, SpelledOperation, Terminal, refused_types,
+};
 
 /// First words of instructions that give a value of their operands.
 const VALUE_WORDS: [Kind; 7] = [
@@ -42,29 +47,6 @@ const COMMON_WORDS: [Kind; 14] = [
     Kind::AtomicRmw,
     Kind::CmpXchg,
     Kind::ExtractValue,
-];
-
-/// Words that are Unsupported where an instruction of the entry block may stand.
-const REFUSED: [Kind; 7] = [
-    Kind::External,
-    Kind::MetadataWord,
-    Kind::Target,
-    Kind::OtherWord,
-    Kind::OtherType,
-    Kind::LabelWord,
-    Kind::WideIntType,
-];
-
-/// Those where an instruction of another block may stand.
-const REFUSED_LATER: [Kind; 8] = [
-    Kind::Alloca,
-    Kind::External,
-    Kind::MetadataWord,
-    Kind::Target,
-    Kind::OtherWord,
-    Kind::OtherType,
-    Kind::LabelWord,
-    Kind::WideIntType,
 ];
 
 /// binop flag* type value , value
@@ -355,11 +337,25 @@ pub(crate) fn starts_plain(reader: &Reader, entry: bool) -> bool
     reader.next_among(&COMMON_WORDS) || entry && reader.next_is(Kind::Alloca)
 }
 
-/// Words that are Unsupported where an instruction may stand.
-pub(crate) fn refused_bodies(entry: bool) -> &'static [Kind]
-    ensures { result.now ≡ refused_bodies entry }
+/// What is Unsupported where an instruction may stand, beside what is Unsupported as a type.
+fn more_refused(entry: bool) -> &'static [Kind]
+    ensures { result.now ++ refused_types at.Plain ≡ refused_bodies entry }
 {
-    if entry { &REFUSED } else { &REFUSED_LATER }
+    if entry { &[] } else { &[Kind::Alloca] }
+}
+
+/// Whether a word that is Unsupported where an instruction may stand comes next.
+pub(crate) fn next_is_refused(reader: &Reader, entry: bool) -> bool
+    ensures { result ≡ starts (refused_bodies entry) reader.now.rest.now }
+{
+    reader.next_either(more_refused(entry), refused_types(Context::Plain))
+}
+
+/// The failure where no instruction begins.
+fn refuse_body(reader: &Reader, entry: bool) -> Failure
+    ensures { result ≡ Flawed (if starts (refused_bodies entry) reader.now.rest.now then unsupported reader.now.rest.now else bad reader.now.rest.now) }
+{
+    reader.refuse_either(more_refused(entry), refused_types(Context::Plain))
 }
 
 /// body
@@ -377,5 +373,5 @@ pub(crate) fn body(
     if reader.next_among(&[Kind::Call, Kind::TailWord]) {
         return call(reader, levels);
     }
-    Err(reader.refuse(refused_bodies(entry)))
+    Err(refuse_body(reader, entry))
 }

@@ -10,29 +10,8 @@ use crate::endings::attachments;
 use crate::operands::operand;
 use ir_grammar::{
     Context, Failure, Kind, Reader, SpelledAttachment, SpelledOperand, SpelledOperation, Terminal,
-    TypedOperand,
+    TypedOperand, refused_values,
 };
-
-/// What is Unsupported in the place of a function that is called.
-const NOT_CALLED: [Kind; 17] = [
-    Kind::OpenParen,
-    Kind::Local,
-    Kind::LocalDefinition,
-    Kind::Float,
-    Kind::Binary,
-    Kind::BinaryRmw,
-    Kind::Icmp,
-    Kind::Cast,
-    Kind::Select,
-    Kind::ExtractValue,
-    Kind::External,
-    Kind::MetadataWord,
-    Kind::Target,
-    Kind::OtherWord,
-    Kind::OtherType,
-    Kind::LabelWord,
-    Kind::WideIntType,
-];
 
 /// attr* value
 #[tactic(auto, unfolding(ir_grammar::specs::Calls::argument_value))]
@@ -154,7 +133,8 @@ fn called(
     if reader.next_is(Kind::DebugGlobal) {
         return debug_call(reader, levels);
     }
-    Err(reader.refuse(&NOT_CALLED))
+    let not_called = [Kind::OpenParen, Kind::Local, Kind::LocalDefinition];
+    Err(reader.refuse_either(&not_called, refused_values()))
 }
 
 /// Whether more attributes of a call are read at the next token, if only to refuse it.

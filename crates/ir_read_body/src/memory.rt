@@ -9,11 +9,11 @@ use crate::instructions::{instruction_flags, maybe_word};
 use crate::operands::{comma_pointer, integer_operand, typed_operand};
 use ir_grammar::{
     Context, Failure, Kind, Reader, SpelledAttachment, SpelledOperand, SpelledOperation, Terminal,
-    TypedOperand, integers, token_in,
+    TypedOperand, integers, refused_values, token_in,
 };
 
-/// What begins a value that is no integer: as the count of an alloca it is Unsupported.
-const NO_COUNTS: [Kind; 24] = [
+/// What begins a value that is no integer: as the count of an alloca it is Unsupported, and so is what is refused as a value.
+const NO_COUNTS: [Kind; 10] = [
     Kind::Local,
     Kind::LocalDefinition,
     Kind::Global,
@@ -24,20 +24,6 @@ const NO_COUNTS: [Kind; 24] = [
     Kind::Null,
     Kind::ZeroWord,
     Kind::GetElementPtr,
-    Kind::Float,
-    Kind::Binary,
-    Kind::BinaryRmw,
-    Kind::Icmp,
-    Kind::Cast,
-    Kind::Select,
-    Kind::ExtractValue,
-    Kind::External,
-    Kind::MetadataWord,
-    Kind::Target,
-    Kind::OtherWord,
-    Kind::OtherType,
-    Kind::LabelWord,
-    Kind::WideIntType,
 ];
 
 /// integer, and Unsupported at what begins another value
@@ -48,7 +34,7 @@ fn count_operand(reader: &mut Reader, levels: u32) -> Result<SpelledOperand, Fai
     if reader.next_among(integers()) {
         return integer_operand(reader, levels);
     }
-    Err(reader.refuse(&NO_COUNTS))
+    Err(reader.refuse_either(&NO_COUNTS, refused_values()))
 }
 
 /// type integer

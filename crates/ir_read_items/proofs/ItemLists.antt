@@ -16,7 +16,7 @@ use Rattle.ir_grammar.proofs.First.{shortens}
 use Rattle.ir_grammar.proofs.Loops.{skip_more, skip_done, skip_failed}
 use Rattle.ir_grammar.proofs.AttributeLists.{attribute_full}
 use Rattle.ir_grammar.proofs.KindSets.{starts-append}
-use Rattle.ir_read_items.specs.Items.{source_filename, target, attribute_group, type_item, attachment, comma_part, global_tail, global_item, used_item, attachments, declare_attachment, declare_part, declare_tail, declare_head, declare_item, node_item, list_item, item, free_items, next_items, declare_group, declare_groups}
+use Rattle.ir_read_items.specs.Items.{source_filename, target, attribute_group, type_item, attachment, comma_part, global_tail, global_item, used_item, attachments, declare_attachment, declare_part, declare_tail, declare_head, declare_item, define_head, define_item, node_item, list_item, item, free_items, next_items, declare_group, declare_groups}
 
 pub tail_more : (levels : ℕ) (ts : List Terminal) (st : Store) (x : Unit {0} × List Terminal × Store)
     → starts (k.Comma ∷ k.MetaComma ∷ []) ts ≡ true → read levels comma_part ts st ≡ Ok x → read levels global_tail ts st ≡ read levels global_tail x.1 x.2
@@ -88,23 +88,23 @@ regroup false false true d = refl
 regroup false false false d = refl
 
 abbrev item_starts : List Kind
-item_starts = k.SourceFilename ∷ k.Target ∷ k.Local ∷ k.LocalDefinition ∷ k.Global ∷ k.DebugGlobal ∷ k.UsedGlobal ∷ k.AttributesWord ∷ []
+item_starts = k.SourceFilename ∷ k.Target ∷ k.Local ∷ k.LocalDefinition ∷ k.Global ∷ k.DebugGlobal ∷ k.UsedGlobal ∷ k.AttributesWord ∷ k.Define ∷ []
 
 abbrev item_refused : List Kind
-item_refused = k.Define ∷ k.External ∷ k.MetadataWord ∷ k.DollarWord ∷ k.OtherWord ∷ k.OtherType ∷ k.LabelWord ∷ k.WideIntType ∷ []
+item_refused = k.External ∷ k.MetadataWord ∷ k.DollarWord ∷ k.OtherWord ∷ k.OtherType ∷ k.LabelWord ∷ k.WideIntType ∷ []
 
 -- the kinds that an item is read at
 pub item_kinds : (names : List Kind) (ts : List Terminal) → starts (first (item names)) ts
-    ≡ (((starts (k.SourceFilename ∷ k.Target ∷ k.Local ∷ k.LocalDefinition ∷ k.Global ∷ k.DebugGlobal ∷ k.UsedGlobal ∷ k.AttributesWord ∷ []) ts || starts (k.MetaNumber ∷ []) ts)
-    || starts names ts) || starts (k.Define ∷ k.External ∷ k.MetadataWord ∷ k.DollarWord ∷ k.OtherWord ∷ k.OtherType ∷ k.LabelWord ∷ k.WideIntType ∷ []) ts)
-unfolding item source_filename target type_item global_item used_item attribute_group node_item list_item
+    ≡ (((starts (k.SourceFilename ∷ k.Target ∷ k.Local ∷ k.LocalDefinition ∷ k.Global ∷ k.DebugGlobal ∷ k.UsedGlobal ∷ k.AttributesWord ∷ k.Define ∷ []) ts || starts (k.MetaNumber ∷ []) ts)
+    || starts names ts) || starts (k.External ∷ k.MetadataWord ∷ k.DollarWord ∷ k.OtherWord ∷ k.OtherType ∷ k.LabelWord ∷ k.WideIntType ∷ []) ts)
+unfolding item source_filename target type_item global_item used_item attribute_group define_item define_head node_item list_item
 item_kinds names ts =
     starts-append item_starts (k.MetaNumber ∷ [] ++ (names ++ item_refused)) ts
     ∙ (ap (λ v. starts item_starts ts || v) (starts-append (k.MetaNumber ∷ []) (names ++ item_refused) ts ∙ ap (λ v. starts (k.MetaNumber ∷ []) ts || v) (starts-append names item_refused ts))
     ∙ regroup (starts item_starts ts) (starts (k.MetaNumber ∷ []) ts) (starts names ts) (starts item_refused ts))
 
 item_full : (names : List Kind) → is_empty (item names) ≡ false
-unfolding item source_filename target type_item global_item used_item attribute_group node_item list_item
+unfolding item source_filename target type_item global_item used_item attribute_group define_item define_head node_item list_item
 item_full names = refl
 
 pub items_more : (levels : ℕ) (ts : List Terminal) (st : Store) (x : Unit {0} × List Terminal × Store)

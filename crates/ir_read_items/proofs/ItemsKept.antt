@@ -9,18 +9,20 @@ use Rattle.ir_grammar.specs.declared.spelled.SpelledItem.TheVariants as items
 use Rattle.ir_grammar.specs.Kinds.{is_same}
 use Rattle.ir_grammar.specs.Rules.{Sort, nothing, token, base, pair, list, Value, one, ◌⨾◌, optional, many, act, the, gone, ◌▷◌}
 use Rattle.ir_grammar.specs.Words.{texts, meta_names, locals, commas}
-use Rattle.ir_grammar.specs.Names.{Base, number, constant, parameter, shared, Production}
+use Rattle.ir_grammar.specs.Names.{Base, number, constant, parameter, block, shared, Production}
 use Rattle.ir_grammar.specs.Spelled.{Store, add_type, add_item}
 use Rattle.ir_grammar.specs.Skipped.{in_squares, in_braces, in_parens}
 use Rattle.ir_grammar.specs.Types.{type_rule}
 use Rattle.ir_grammar.specs.Constants.{constant_rule}
 use Rattle.ir_grammar.specs.Attributes.{attributes}
 use Rattle.ir_grammar.specs.Parameters.{parameters}
+use Rattle.ir_grammar.specs.Blocks.{function_body}
 use Rattle.ir_grammar.specs.SoundStore.{IsSoundItem, counts_of, size_of}
 use Rattle.ir_grammar.proofs.Kept.{SoundValue, items_in, fewer}
 use Rattle.ir_grammar.proofs.SoundSteps.{reading, kept_type, kept_item, kept_declare}
+use Rattle.ir_grammar.proofs.BodySteps.{kept_define}
 use Rattle.ir_grammar.proofs.SharedKept.{Spares, gone_kept, then_kept, first_kept, type_kept, constant_kept, attribute_kept, attributes_kept, parameters_kept, in_parens_kept, in_squares_kept, in_braces_kept, word_kept}
-use Rattle.ir_read_items.specs.Items.{equals_text, source_filename, layout_text, layout, triple, target_line, target, attribute_group, type_body, type_item, global_head, section_rest, section, attachment, global_part, comma_part, global_tail, global_value, global_item, packed_any, used_value, used_item, attachments, declare_attachment, declare_part, declare_tail, declare_head, declare_parameters, declare_item, bang_node, named_node, node, maybe_distinct, node_item, list_item, item, free_items, next_items, maybe_next_items, declare_group, declare_groups, module_rule}
+use Rattle.ir_read_items.specs.Items.{equals_text, source_filename, layout_text, layout, triple, target_line, target, attribute_group, type_body, type_item, global_head, section_rest, section, attachment, global_part, comma_part, global_tail, global_value, global_item, packed_any, used_value, used_item, attachments, declare_attachment, declare_part, declare_tail, declare_head, declare_parameters, declare_item, define_part, define_tail, define_head, define_body, define_rest, define_item, bang_node, named_node, node, maybe_distinct, node_item, list_item, item, free_items, next_items, maybe_next_items, declare_group, declare_groups, module_rule}
 
 -- an item that is added behind a rule
 item_kept : {s : Sort Base} (a : Production s) (f : Value shared s → SpelledItem) → ((x : Value shared s) (st : Store) → SoundValue shared reading s x st → IsSoundItem (counts_of st) (f x)) → Spares s a 2
@@ -165,6 +167,44 @@ declare_kept = (
   omega arith,
 )
 
+define_part_kept : Spares nothing define_part 1
+unfolding define_part
+define_part_kept = (attachment_kept, attribute_kept at.Plain)
+
+define_tail_kept : Spares nothing define_tail 0
+unfolding define_tail
+define_tail_kept = gone_kept (many define_part) 0 (omega arith, define_part_kept)
+
+define_head_kept : Spares (base number) define_head 8
+unfolding define_head
+define_head_kept =
+    then_kept (the k.Define) (attributes at.Plain ▷ type_rule at.Plain) 8 8 2 (omega arith)
+    (then_kept (attributes at.Plain) (type_rule at.Plain) 2 0 2 (attributes_kept at.Plain) (type_kept at.Plain) (omega arith))
+    (omega arith)
+
+function_kept : Spares (list (base block)) function_body 16
+unfolding function_body
+function_kept = omega arith
+
+define_body_kept : Spares (list (base block)) define_body 16
+unfolding define_body
+define_body_kept = then_kept define_tail function_body 16 0 16 define_tail_kept function_kept (omega arith)
+
+define_rest_kept : Spares (pair (list (base parameter)) (list (base block))) define_rest 16
+unfolding define_rest
+define_rest_kept = (16, 16, parameters_kept at.Plain, define_body_kept, omega arith)
+
+define_kept : Spares nothing define_item 1
+unfolding define_item
+define_kept = (
+  1,
+  2,
+  (λ v st from good sound.
+      kept_define ((v.1).0).token v.0 (((v.1).1).0) (((v.1).1).1) st (size_of st + (0 + (0 + (length (((v.1).1).0) + length (((v.1).1).1)))) + 1) good sound.0 (((sound.1).1).0) (((sound.1).1).1) (omega arith)),
+  (8, 8, define_head_kept, (8, 16, omega arith, define_rest_kept, omega arith), omega arith),
+  omega arith,
+)
+
 bang_kept : Spares nothing bang_node 8
 unfolding bang_node
 bang_kept = gone_kept (the k.Bang ⨾ in_braces) 8 (8, 16, omega arith, in_braces_kept, omega arith)
@@ -195,7 +235,7 @@ list_item_kept names =
 any_item_kept : (names : List Kind) → Spares nothing (item names) 1
 unfolding item
 any_item_kept names =
-    (source_kept, (target_kept, (type_item_kept, (global_kept, (used_kept, (group_kept, (node_item_kept, (list_item_kept names, tt))))))))
+    (source_kept, (target_kept, (type_item_kept, (global_kept, (used_kept, (group_kept, (define_kept, (node_item_kept, (list_item_kept names, tt)))))))))
 
 free_kept : Spares nothing free_items 0
 unfolding free_items

@@ -1,3 +1,4 @@
+pub mod DefineLists
 pub mod ItemLists
 pub mod ItemsKept
 pub mod ModuleClear

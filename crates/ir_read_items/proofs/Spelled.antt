@@ -23,7 +23,8 @@ use Rattle.ir_grammar.proofs.Ranged.{text_has_no_end}
 use Rattle.ir_grammar.proofs.SoundSteps.{reading}
 use Rattle.ir_grammar.proofs.NamesKept.{names_kept}
 use Rattle.ir_read_items.specs.Items.{module_rule, declare_groups}
-use Rattle.ir_read_items.specs.ItemReading.{nothing_read, spelled}
+use Rattle.ir_read_body.specs.BodyReading.{nothing_read}
+use Rattle.ir_read_items.specs.ItemReading.{spelled}
 use Rattle.ir_read_items.specs.ItemLaws.{IsModule}
 use Rattle.ir_read_items.proofs.ItemsKept.{module_kept}
 use Rattle.ir_read_items.proofs.ModuleClear.{module_clear}

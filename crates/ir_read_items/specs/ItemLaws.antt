@@ -2,18 +2,20 @@
 use Rattle.std.specs.Prelude.{ℕ, List, [], ◌∷◌, ◌++◌, suc, length, ◌≡◌, Ok, Err}
 use Rattle.ir_core.specs.declared.token.Token.{Token}
 use Rattle.ir_core.specs.declared.refusals.Place.{Place}
-use Rattle.ir_core.specs.declared.faults.Fault.TheVariants.{TooLarge}
+use Rattle.ir_core.specs.declared.faults.Fault.TheVariants.{Unsupported, TooLarge}
 use Rattle.ir_core.specs.declared.faults.Limit.TheVariants.{Nesting}
 use Rattle.ir_grammar.specs.declared.terminal.Terminal.{Terminal}
 use Rattle.ir_grammar.specs.declared.terminal.Flaw.{Flaw}
 use Rattle.ir_grammar.specs.Rules.{nothing, Derives}
 use Rattle.ir_grammar.specs.Prefixes.{Begins}
+use Rattle.ir_grammar.specs.Forms.{StandsListed}
 use Rattle.ir_grammar.specs.Names.{shared}
 use Rattle.ir_grammar.specs.Spelled.{Store}
 use Rattle.ir_grammar.specs.KindOf.{text_of}
 use Rattle.ir_grammar.specs.Grammar.{production, nesting_limit}
 use Rattle.ir_read_items.specs.Items.{module_rule}
-use Rattle.ir_read_items.specs.ItemReading.{nothing_read, spelled}
+use Rattle.ir_read_body.specs.BodyReading.{nothing_read}
+use Rattle.ir_read_items.specs.ItemReading.{spelled}
 
 -- the tokens are a module, with at most this many brackets around one another, and this is what it spells
 abbrev pub IsModule : ℕ → List Terminal → Store → Type 0
@@ -54,3 +56,14 @@ FaultEnds = (front : List Terminal) (token : Terminal) (rest : List Terminal) (e
 abbrev pub FaultIsNoModule : Type 0
 FaultIsNoModule = (tokens : List Terminal) (e : Flaw) → spelled tokens ≡ Err e → (e.fault ≡ TooLarge Nesting → ⊥)
     → (levels : ℕ) (store : Store) → IsModule levels tokens store → ⊥
+
+-- a fault that is Unsupported is at a form that isn't taken there
+abbrev pub UnsupportedIsListed : Type 0
+UnsupportedIsListed = (tokens : List Terminal) (e : Flaw) → spelled tokens ≡ Err e → e.fault ≡ Unsupported
+    → (front : List Terminal) × (token : Terminal) × (rest : List Terminal) × (tokens ≡ front ++ token ∷ rest) × (e.left ≡ suc (length rest)) × StandsListed shared production nothing module_rule front nothing_read token
+
+-- a fault at a form that isn't taken there is Unsupported, one of nesting aside
+abbrev pub ListedIsUnsupported : Type 0
+ListedIsUnsupported = (front : List Terminal) (token : Terminal) (rest : List Terminal) (e : Flaw)
+    → spelled (front ++ token ∷ rest) ≡ Err e → e.left ≡ suc (length rest) → (e.fault ≡ TooLarge Nesting → ⊥)
+    → StandsListed shared production nothing module_rule front nothing_read token → e.fault ≡ Unsupported

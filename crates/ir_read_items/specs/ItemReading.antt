@@ -1,18 +1,14 @@
--- What reading the items of a text answers.
-use Rattle.std.specs.Prelude.{List, [], Result, Ok}
+-- What reading a text, its items with the bodies of its functions, returns.
+use Rattle.std.specs.Prelude.{List, Result, Ok}
 use Rattle.ir_grammar.specs.declared.terminal.Terminal.{Terminal}
 use Rattle.ir_grammar.specs.declared.terminal.Flaw.{Flaw}
 use Rattle.ir_grammar.specs.declared.terminal.Failure.{Failure}
 use Rattle.ir_grammar.specs.declared.reader.Spellings.{Spellings}
-use Rattle.ir_grammar.specs.BodyStore.{no_bodies}
 use Rattle.ir_grammar.specs.Reading.{◌>>=◌}
 use Rattle.ir_grammar.specs.Spelled.{Store, store_of}
 use Rattle.ir_grammar.specs.Grammar.{Gives, read, nesting_limit}
+use Rattle.ir_read_body.specs.BodyReading.{nothing_read}
 use Rattle.ir_read_items.specs.Items.{module_rule}
-
--- nothing yet
-abbrev pub nothing_read : Store
-nothing_read = record { types = []; fields = []; constants = []; elements = []; indices = []; parameters = []; items = []; bodies = no_bodies }
 
 -- the whole text read by the grammar: what it spells, or the flaw
 abbrev pub spelled : List Terminal → Result Store Flaw

@@ -1,5 +1,5 @@
--- The items of a module without function bodies (LLVM Language Reference, "Module Structure" and what follows it). What
--- this program doesn't take is Unsupported where an item may begin; so is `define`, for now.
+-- The items of a module (LLVM Language Reference, "Module Structure" and what follows it), with the bodies of functions. What
+-- this program doesn't take is Unsupported where an item may begin.
 use Rattle.std.specs.Prelude.{List, [], ◌∷◌}
 use Rattle.ir_grammar.specs.declared.context.Context.TheVariants as at
 use Rattle.ir_grammar.specs.declared.kind.Kind.{Kind}
@@ -8,14 +8,16 @@ use Rattle.ir_grammar.specs.declared.spelled.SpelledType.TheVariants as types
 use Rattle.ir_grammar.specs.declared.spelled.SpelledItem.TheVariants as items
 use Rattle.ir_grammar.specs.Kinds.{is_same}
 use Rattle.ir_grammar.specs.Rules.{token, base, pair, list, nothing, one, refused, ◌⨾◌, ◌∣◌, optional, many, act, the, gone, ◌▷◌, ◌◁◌}
-use Rattle.ir_grammar.specs.Names.{Production, number, constant, parameter}
+use Rattle.ir_grammar.specs.Names.{Production, number, constant, parameter, block}
 use Rattle.ir_grammar.specs.Words.{texts, globals, meta_names, locals, commas, refused_words}
 use Rattle.ir_grammar.specs.Spelled.{add_type, add_item, add_declare}
+use Rattle.ir_grammar.specs.SpelledBodies.{add_define}
 use Rattle.ir_grammar.specs.Skipped.{in_squares, in_braces, in_parens}
 use Rattle.ir_grammar.specs.Types.{type_rule}
 use Rattle.ir_grammar.specs.Constants.{constant_rule}
 use Rattle.ir_grammar.specs.Attributes.{attribute, attributes}
 use Rattle.ir_grammar.specs.Parameters.{parameters}
+use Rattle.ir_grammar.specs.Blocks.{function_body}
 
 -- = string
 unfoldable pub equals_text : Production nothing
@@ -134,6 +136,30 @@ declare_parameters = parameters at.Declare ◁ declare_tail
 unfoldable pub declare_item : Production nothing
 declare_item = act (λ v. add_declare ((v.1).0).token v.0 ((v.1).1)) (declare_head ⨾ (one globals ⨾ declare_parameters))
 
+-- metaname metanum | attr; a `section` and its string are read as two attributes
+unfoldable pub define_part : Production nothing
+define_part = attachment ∣ attribute at.Plain
+
+-- ftail*
+unfoldable pub define_tail : Production nothing
+define_tail = gone (many define_part)
+
+-- define attr* type
+unfoldable pub define_head : Production (base number)
+define_head = the k.Define ▷ (attributes at.Plain ▷ type_rule at.Plain)
+
+-- ftail* { block+ }
+unfoldable pub define_body : Production (list (base block))
+define_body = define_tail ▷ function_body
+
+-- ( params ) ftail* { block+ }
+unfoldable pub define_rest : Production (pair (list (base parameter)) (list (base block)))
+define_rest = parameters at.Plain ⨾ define_body
+
+-- define attr* type global ( params ) ftail* { block+ }
+unfoldable pub define_item : Production nothing
+define_item = act (λ v. add_define ((v.1).0).token v.0 (((v.1).1).0) (((v.1).1).1)) (define_head ⨾ (one globals ⨾ define_rest))
+
 -- bang { any }
 unfoldable pub bang_node : Production nothing
 bang_node = gone (the k.Bang ⨾ in_braces)
@@ -160,11 +186,11 @@ list_item names = act (λ v. add_item (items.NodeList (v.0).token)) (one names �
 
 -- words that are Unsupported where an item may begin
 abbrev pub refused_items : List Kind
-refused_items = k.Define ∷ k.External ∷ k.MetadataWord ∷ k.DollarWord ∷ refused_words
+refused_items = k.External ∷ k.MetadataWord ∷ k.DollarWord ∷ refused_words
 
 -- an item that is no declare, where a metadata list has a name of these kinds
 unfoldable pub item : List Kind → Production nothing
-item names = source_filename ∣ target ∣ type_item ∣ global_item ∣ used_item ∣ attribute_group ∣ node_item ∣ list_item names ∣ refused refused_items
+item names = source_filename ∣ target ∣ type_item ∣ global_item ∣ used_item ∣ attribute_group ∣ define_item ∣ node_item ∣ list_item names ∣ refused refused_items
 
 -- items that are no declares, behind another such item or at the head of the text
 unfoldable pub free_items : Production nothing

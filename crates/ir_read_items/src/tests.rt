@@ -6,6 +6,7 @@ use std::process::Abort;
 use std::test::Fail;
 
 mod accepted;
+mod defined;
 mod large;
 mod module_text;
 mod nested;

@@ -7,15 +7,16 @@ ghost use Rattle.ir_read_items.specs.Items.{item, free_items, next_items, maybe_
 ghost use Rattle.ir_read_items.specs.ItemReading.{ReadsItems};
 
 use crate::declares::declare_item;
+use crate::defines::define_item;
 use crate::globals::{global_item, used_item};
 use crate::items::{attribute_group, source_filename, target, type_item};
 use crate::nodes::{list_item, node_item};
 use hw_base::MOST_NESTING;
-use ir_grammar::{Failure, Kind, Reader, Spellings, Terminal};
+use ir_grammar::{Failure, Kind, Reader, Spellings, Terminal, refused_words};
 use std::alloc::Global;
 
 /// The kinds that an item begins with wherever it stands, but for a declare.
-const STARTS: [Kind; 8] = [
+const STARTS: [Kind; 9] = [
     Kind::SourceFilename,
     Kind::Target,
     Kind::Local,
@@ -24,22 +25,14 @@ const STARTS: [Kind; 8] = [
     Kind::DebugGlobal,
     Kind::UsedGlobal,
     Kind::AttributesWord,
+    Kind::Define,
 ];
 
-/// Words that are Unsupported where an item may begin.
-const REFUSED: [Kind; 8] = [
-    Kind::Define,
-    Kind::External,
-    Kind::MetadataWord,
-    Kind::DollarWord,
-    Kind::OtherWord,
-    Kind::OtherType,
-    Kind::LabelWord,
-    Kind::WideIntType,
-];
+/// Words that are Unsupported where an item may begin, beside those that are Unsupported everywhere.
+const MORE_REFUSED: [Kind; 3] = [Kind::External, Kind::MetadataWord, Kind::DollarWord];
 
 /// An item that is no declare, where a metadata list has a name of these kinds.
-#[tactic(auto, unfolding(crate::specs::Items::item, crate::specs::Items::source_filename, crate::specs::Items::target, crate::specs::Items::type_item, crate::specs::Items::global_item, crate::specs::Items::used_item, crate::specs::Items::attribute_group, crate::specs::Items::node_item, crate::specs::Items::list_item))]
+#[tactic(auto, unfolding(crate::specs::Items::item, crate::specs::Items::source_filename, crate::specs::Items::target, crate::specs::Items::type_item, crate::specs::Items::global_item, crate::specs::Items::used_item, crate::specs::Items::attribute_group, crate::specs::Items::define_item, crate::specs::Items::define_head, crate::specs::Items::node_item, crate::specs::Items::list_item))]
 fn item(reader: &mut Reader, names: &[Kind], levels: u32) -> Result<(), Failure>
     ensures { Reads (λ x. x) result reader.old reader.new levels (item names.now) }
 {
@@ -61,13 +54,16 @@ fn item(reader: &mut Reader, names: &[Kind], levels: u32) -> Result<(), Failure>
     if reader.next_is(Kind::AttributesWord) {
         return attribute_group(reader, levels);
     }
+    if reader.next_is(Kind::Define) {
+        return define_item(reader, levels);
+    }
     if reader.next_is(Kind::MetaNumber) {
         return node_item(reader, levels);
     }
     if reader.next_among(names) {
         return list_item(reader, names, levels);
     }
-    Err(reader.refuse(&REFUSED))
+    Err(reader.refuse_either(&MORE_REFUSED, refused_words()))
 }
 
 /// Whether an item that is no declare is read at the next token, if only to refuse it.
@@ -78,7 +74,7 @@ fn starts_item(reader: &Reader, names: &[Kind]) -> bool
     reader.next_among(&STARTS)
         || reader.next_is(Kind::MetaNumber)
         || reader.next_among(names)
-        || reader.next_among(&REFUSED)
+        || reader.next_either(&MORE_REFUSED, refused_words())
 }
 
 /// Items that are no declares, behind another such item or at the head of the text.
@@ -166,8 +162,8 @@ fn spelled(alloc: Global, tokens: &[Terminal]) -> Result<Spellings, Failure>
     Ok(reader.found)
 }
 
-/// What a text spells, from its tokens with the end of the text behind them: its items in order of the text, with the
-/// types, constants and parameters that they name by number. The error is the flaw at the first token with which nothing
+/// What a text spells, from its tokens with the end of the text after them: its items in order of the text, with the
+/// types, constants, parameters and bodies that they name by number. The error is the flaw at the first token with which nothing
 /// of the grammar goes on, the bracket that opens the 65th level among them, or want of memory.
 pub fn read_items(alloc: Global, tokens: &[Terminal]) -> Result<Spellings, Failure>
     requires { All IsInRange tokens.now }

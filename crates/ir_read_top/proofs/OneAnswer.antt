@@ -5,7 +5,7 @@ use Rattle.ir_core.specs.declared.token.Token.{Token}
 use Rattle.ir_core.specs.declared.refusals.Place.{Place}
 use Rattle.ir_core.specs.declared.refusals.Refusal.{Refusal}
 use Rattle.ir_core.specs.declared.faults.Fault.{Fault}
-use Rattle.ir_core.specs.declared.faults.Fault.TheVariants.{BadToken}
+use Rattle.ir_core.specs.declared.faults.Fault.TheVariants.{BadToken, Unsupported}
 use Rattle.ir_core.specs.declared.ir_module.Module.{Module}
 use Rattle.ir_core.specs.Tokenisation.{IsTokenisation, IsBadTokenAt, place_after}
 use Rattle.ir_lex.proofs.Cuts.{one_tokenisation, one_bad_place}
@@ -20,7 +20,8 @@ use Rattle.ir_read_items.proofs.Spelled.{module_spelled}
 use Rattle.ir_names.specs.declared.fault.NameFault.{NameFault}
 use Rattle.ir_names.specs.First.{first_fault}
 use Rattle.ir_names.specs.Faults.{name_faults}
-use Rattle.ir_read_top.specs.Texts.{sentence, refusal_at, place_with, IsAccepted, IsFaultOf, too_long, bad_token, flawed, misnamed}
+use Rattle.ir_read_top.specs.Module.{first_defined}
+use Rattle.ir_read_top.specs.Texts.{sentence, refusal_at, place_with, IsAccepted, IsFaultOf, too_long, bad_token, flawed, defines, misnamed}
 
 -- a text that is a module is read so
 read_whole : (text : List ℕ) (tokens : List Token) (store : Store) → IsModule nesting_limit (sentence text tokens) store → spelled (sentence text tokens) ≡ Ok store
@@ -49,6 +50,17 @@ one_store text s t a b cut cut' d d' =
 -- the first fault of the names of one text is one
 one_first : (text : List ℕ) (a b : Store) (f g : Option NameFault) → a ≡ b → first_fault (name_faults text a.items a) ≡ f → first_fault (name_faults text b.items b) ≡ g → f ≡ g
 one_first text a b f g e h h' = sym h ∙ (ap (λ v. first_fault (name_faults text v.items v)) e ∙ h')
+
+-- the first function that one text defines is one
+one_defined : (text : List ℕ) (s t : List Token) (a b : Store) (x y : Option Token) → IsTokenisation text s → IsTokenisation text t
+    → IsModule nesting_limit (sentence text s) a → IsModule nesting_limit (sentence text t) b → first_defined a.items ≡ x → first_defined b.items ≡ y → x ≡ y
+one_defined text s t a b x y cut cut' d d' h h' = sym h ∙ (ap (λ (v : Store). first_defined v.items) (one_store text s t a b cut cut' d d') ∙ h')
+
+no_definition : (name : Token) → None ≡ Some name → ⊥
+no_definition name h = cc
+
+same_definition : (a b : Token) → Some a ≡ Some b → refusal_at Unsupported a.place ≡ refusal_at Unsupported b.place
+same_definition a b h = let e : a ≡ b = cc in ap (λ (v : Token). refusal_at Unsupported v.place) e
 
 none_or_some : (f : NameFault) → None ≡ Some f → ⊥
 none_or_some f h = cc
@@ -79,25 +91,35 @@ pub never_both : (text : List ℕ) (m : Module) (r : Refusal) → IsAccepted tex
 never_both text m _ a (too_long h) = too_much (length text) a.short h
 never_both text m _ a (bad_token place short h) = cuts.never_both text a.tokens place a.cut h
 never_both text m _ a (flawed tokens fault left short cut h) = not_flawed text a.tokens tokens a.store (record { fault = fault; left = left }) a.cut cut a.derived h
-never_both text m _ a (misnamed tokens store f short cut derived h) =
+never_both text m _ a (defines tokens store name short cut derived h) =
+    no_definition name (one_defined text a.tokens tokens a.store store None (Some name) a.cut cut a.derived derived a.plain h)
+never_both text m _ a (misnamed tokens store f short cut derived plain h) =
     none_or_some f (one_first text a.store store None (Some f) (one_store text a.tokens tokens a.store store a.cut cut a.derived derived) a.named h)
 
 -- a text has one fault
 pub one_fault : (text : List ℕ) (r q : Refusal) → IsFaultOf text r → IsFaultOf text q → r ≡ q
 one_fault text _ _ (too_long h) (too_long h') = refl
-one_fault text _ _ (too_long h) (bad_token p short b) = absurd (too_much (length text) short h)
-one_fault text _ _ (too_long h) (flawed t f l short cut e) = absurd (too_much (length text) short h)
-one_fault text _ _ (too_long h) (misnamed t s f short cut d e) = absurd (too_much (length text) short h)
-one_fault text _ _ (bad_token p short b) (too_long h) = absurd (too_much (length text) short h)
+one_fault text _ _ (too_long h) (bad_token p' short' b') = absurd (too_much (length text) short' h)
+one_fault text _ _ (too_long h) (flawed t' f' l' short' cut' e') = absurd (too_much (length text) short' h)
+one_fault text _ _ (too_long h) (defines t' s' n' short' cut' d' e') = absurd (too_much (length text) short' h)
+one_fault text _ _ (too_long h) (misnamed t' s' f' short' cut' d' p' e') = absurd (too_much (length text) short' h)
+one_fault text _ _ (bad_token p short b) (too_long h') = absurd (too_much (length text) short h')
 one_fault text _ _ (bad_token p short b) (bad_token p' short' b') = ap (refusal_at BadToken) (one_bad_place text p p' b b')
-one_fault text _ _ (bad_token p short b) (flawed t f l short' cut e) = absurd (cuts.never_both text t p cut b)
-one_fault text _ _ (bad_token p short b) (misnamed t s f short' cut d e) = absurd (cuts.never_both text t p cut b)
-one_fault text _ _ (flawed t f l short cut e) (too_long h) = absurd (too_much (length text) short h)
-one_fault text _ _ (flawed t f l short cut e) (bad_token p short' b) = absurd (cuts.never_both text t p cut b)
-one_fault text _ _ (flawed t f l short cut e) (flawed t' f' l' short' cut' e') =
-    one_flaw text t t' (record { fault = f; left = l }) (record { fault = f'; left = l' }) cut cut' e e'
-one_fault text _ _ (flawed t f l short cut e) (misnamed t' s g short' cut' d h) = absurd (not_flawed text t' t s (record { fault = f; left = l }) cut' cut d e)
-one_fault text _ _ (misnamed t s f short cut d e) (too_long h) = absurd (too_much (length text) short h)
-one_fault text _ _ (misnamed t s f short cut d e) (bad_token p short' b) = absurd (cuts.never_both text t p cut b)
-one_fault text _ _ (misnamed t s f short cut d e) (flawed t' g l short' cut' h) = absurd (not_flawed text t t' s (record { fault = g; left = l }) cut cut' d h)
-one_fault text _ _ (misnamed t s f short cut d e) (misnamed t' s' f' short' cut' d' e') = one_misnaming text t t' s s' f f' cut cut' d d' e e'
+one_fault text _ _ (bad_token p short b) (flawed t' f' l' short' cut' e') = absurd (cuts.never_both text t' p cut' b)
+one_fault text _ _ (bad_token p short b) (defines t' s' n' short' cut' d' e') = absurd (cuts.never_both text t' p cut' b)
+one_fault text _ _ (bad_token p short b) (misnamed t' s' f' short' cut' d' p' e') = absurd (cuts.never_both text t' p cut' b)
+one_fault text _ _ (flawed t f l short cut e) (too_long h') = absurd (too_much (length text) short h')
+one_fault text _ _ (flawed t f l short cut e) (bad_token p' short' b') = absurd (cuts.never_both text t p' cut b')
+one_fault text _ _ (flawed t f l short cut e) (flawed t' f' l' short' cut' e') = one_flaw text t t' (record { fault = f; left = l }) (record { fault = f'; left = l' }) cut cut' e e'
+one_fault text _ _ (flawed t f l short cut e) (defines t' s' n' short' cut' d' e') = absurd (not_flawed text t' t s' (record { fault = f; left = l }) cut' cut d' e)
+one_fault text _ _ (flawed t f l short cut e) (misnamed t' s' f' short' cut' d' p' e') = absurd (not_flawed text t' t s' (record { fault = f; left = l }) cut' cut d' e)
+one_fault text _ _ (defines t s n short cut d e) (too_long h') = absurd (too_much (length text) short h')
+one_fault text _ _ (defines t s n short cut d e) (bad_token p' short' b') = absurd (cuts.never_both text t p' cut b')
+one_fault text _ _ (defines t s n short cut d e) (flawed t' f' l' short' cut' e') = absurd (not_flawed text t t' s (record { fault = f'; left = l' }) cut cut' d e')
+one_fault text _ _ (defines t s n short cut d e) (defines t' s' n' short' cut' d' e') = same_definition n n' (one_defined text t t' s s' (Some n) (Some n') cut cut' d d' e e')
+one_fault text _ _ (defines t s n short cut d e) (misnamed t' s' f' short' cut' d' p' e') = absurd (no_definition n (one_defined text t' t s' s None (Some n) cut' cut d' d p' e))
+one_fault text _ _ (misnamed t s f short cut d p e) (too_long h') = absurd (too_much (length text) short h')
+one_fault text _ _ (misnamed t s f short cut d p e) (bad_token p' short' b') = absurd (cuts.never_both text t p' cut b')
+one_fault text _ _ (misnamed t s f short cut d p e) (flawed t' f' l' short' cut' e') = absurd (not_flawed text t t' s (record { fault = f'; left = l' }) cut cut' d e')
+one_fault text _ _ (misnamed t s f short cut d p e) (defines t' s' n' short' cut' d' e') = absurd (no_definition n' (one_defined text t t' s s' None (Some n') cut cut' d d' p e'))
+one_fault text _ _ (misnamed t s f short cut d p e) (misnamed t' s' f' short' cut' d' p' e') = one_misnaming text t t' s s' f f' cut cut' d d' e e'

@@ -1,5 +1,5 @@
 -- From what each phase answers to what a text is read into.
-use Rattle.std.proofs.Common.{◌≡◌, ℕ, ◌+◌, ◌*◌, ◌^◌, ◌<◌, ◌≤◌, List, [], ◌∷◌, length, sym, subst, refl, arith, length-append, Err}
+use Rattle.std.proofs.Common.{◌≡◌, ℕ, ◌+◌, ◌*◌, ◌^◌, ◌<◌, ◌≤◌, List, [], ◌∷◌, length, sym, ◌∙◌, ap, subst, refl, arith, length-append, Ok, Err, None}
 use Rattle.hw_base.specs.declared.numbers.TheConstants.{MOST_TEXT}
 use Rattle.ir_core.specs.declared.token.Token.{Token}
 use Rattle.ir_core.specs.declared.refusals.Place.{Place}
@@ -14,12 +14,17 @@ use Rattle.ir_grammar.specs.KindOf.{terminals_of, end_of_text, text_of}
 use Rattle.ir_grammar.specs.declared.terminal.Failure.{Failure}
 use Rattle.ir_grammar.specs.declared.terminal.Failure.TheVariants as failures
 use Rattle.ir_grammar.specs.Grammar.{nesting_limit}
-use Rattle.ir_read_items.specs.ItemReading.{ReadsItems}
+use Rattle.ir_grammar.specs.declared.terminal.Terminal.{Terminal}
+use Rattle.ir_grammar.specs.SoundStore.{IsSoundStore, size_of}
+use Rattle.ir_lex.proofs.Cuts.{one_tokenisation}
+use Rattle.ir_read_items.specs.ItemReading.{spelled, ReadsItems}
+use Rattle.ir_read_items.proofs.Spelled.{text_is_module}
 use Rattle.ir_read_items.specs.ItemLaws.{IsModule}
 use Rattle.ir_names.specs.declared.fault.NamesError.{NamesError}
 use Rattle.ir_names.specs.declared.fault.NamesError.TheVariants as names
 use Rattle.ir_names.specs.Meanings.{Resolves}
-use Rattle.ir_read_top.specs.Texts.{sentence, refusal_at, names_error, flaw_error, IsFaultOf, bad_token, flawed, misnamed, ReadsText}
+use Rattle.ir_read_top.specs.Module.{first_defined}
+use Rattle.ir_read_top.specs.Texts.{sentence, refusal_at, names_error, flaw_error, IsFaultOf, bad_token, flawed, misnamed, ReadsText, IsGathered, IsRead, IsSentence}
 
 length-terminals : (source : List ℕ) (ts : List Token) → length (terminals_of source ts) ≡ length ts
 length-terminals source [] = refl
@@ -45,12 +50,39 @@ bad_text text (Refused r) short h = subst (IsFaultOf text) (refusal_is r h.0) (b
 
 -- the fault of a name is that of the text
 pub misnamed_text : (text : List ℕ) (tokens : List Token) (store : Store) (error : NamesError) → length text ≤ MOST_TEXT → IsTokenisation text tokens → IsModule nesting_limit (sentence text tokens) store
-    → Resolves text store.items store (Err error) → ReadsText text (Err (names_error error))
-misnamed_text text tokens store names.OutOfMemory short cut derived h = tt
-misnamed_text text tokens store (names.Fault f) short cut derived h = misnamed tokens store f short cut derived h
+    → first_defined store.items ≡ None → Resolves text store.items store (Err error) → ReadsText text (Err (names_error error))
+misnamed_text text tokens store names.OutOfMemory short cut derived plain h = tt
+misnamed_text text tokens store (names.Fault f) short cut derived plain h = misnamed tokens store f short cut derived plain h
 
 -- the flaw of the tokens is that of the text
 pub flawed_text : (text : List ℕ) (tokens : List Token) (failure : Failure) → length text ≤ MOST_TEXT → IsTokenisation text tokens
     → ReadsItems (sentence text tokens) (Err failure) → ReadsText text (Err (flaw_error (place_after text) (sentence text tokens) failure))
 flawed_text text tokens failures.OutOfMemory short cut h = tt
 flawed_text text tokens (failures.Flawed flaw) short cut h = flawed tokens flaw.fault flaw.left short cut h
+
+-- what the text's tokens spell is what the text spells
+pub gathered_of : (text : List ℕ) (terminals : List Terminal) (store : Store) → length text ≤ MOST_TEXT → IsSentence text terminals → spelled terminals ≡ Ok store → IsSoundStore store → size_of store ≤ 8 * length terminals
+    → IsRead text store
+gathered_of text terminals store short s h sound small =
+    let n : length terminals ≡ length s.tokens + 1 = ap length s.whole ∙ length-text text s.tokens (place_after text) in
+    let few = s.few in
+    record {
+      tokens = s.tokens;
+      cut = s.cut;
+      gathered = record {
+        derived = text_is_module text s.tokens (place_after text) store (sym (ap spelled s.whole) ∙ h);
+        sound = sound;
+        small = small_enough (size_of store) (length terminals) small (omega arith);
+      };
+    }
+
+-- the flaw of the text's tokens is that of the text
+pub flawed_sentence : (text : List ℕ) (terminals : List Terminal) (failure : Failure) → length text ≤ MOST_TEXT → IsSentence text terminals → ReadsItems terminals (Err failure)
+    → ReadsText text (Err (flaw_error (place_after text) terminals failure))
+flawed_sentence text terminals failure short s h =
+    subst (λ v. ReadsText text (Err (flaw_error (place_after text) v failure))) (sym s.whole)
+    (flawed_text text s.tokens failure short s.cut (subst (λ v. ReadsItems v (Err failure)) s.whole h))
+
+-- by whichever tokens it was read
+pub gathered_by : (text : List ℕ) (tokens : List Token) (store : Store) → IsRead text store → IsTokenisation text tokens → IsGathered text tokens store
+gathered_by text tokens store r cut = subst (λ v. IsGathered text v store) (one_tokenisation text r.tokens tokens r.cut cut) r.gathered

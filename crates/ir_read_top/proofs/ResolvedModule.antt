@@ -84,6 +84,7 @@ declare_there m counts numbers parameters (items.Declare name ty first count) (S
       params = params_there m counts numbers (take count (drop first parameters)) below (All-take (IsSoundParameter counts) count (drop first parameters) (All-drop (IsSoundParameter counts) first parameters sound));
     })
     (All-nil (IsResolvedDeclare m))
+declare_there m counts numbers parameters (items.Define name ty first count entry blocks) lib below sound h = All-nil (IsResolvedDeclare m)
 declare_there m counts numbers parameters (items.Node number) lib below sound h = All-nil (IsResolvedDeclare m)
 declare_there m counts numbers parameters (items.NodeList name) lib below sound h = All-nil (IsResolvedDeclare m)
 
@@ -106,6 +107,7 @@ length-globals t (items.Type name ty ∷ rest) = length-globals t rest
 length-globals t (items.Global name constant ty value ∷ rest) = ap (λ n. suc n) (length-globals t rest)
 length-globals t (items.Used ∷ rest) = length-globals t rest
 length-globals t (items.Declare name ty first count ∷ rest) = length-globals t rest
+length-globals t (items.Define name ty first count entry blocks ∷ rest) = length-globals t rest
 length-globals t (items.Node number ∷ rest) = length-globals t rest
 length-globals t (items.NodeList name ∷ rest) = length-globals t rest
 
@@ -138,6 +140,7 @@ global_there text store numbers classes m (items.Global name constant ty value) 
     (All-nil (IsResolvedGlobal m))
 global_there text store numbers classes m items.Used there h = All-nil (IsResolvedGlobal m)
 global_there text store numbers classes m (items.Declare name ty first count) there h = All-nil (IsResolvedGlobal m)
+global_there text store numbers classes m (items.Define name ty first count entry blocks) there h = All-nil (IsResolvedGlobal m)
 global_there text store numbers classes m (items.Node number) there h = All-nil (IsResolvedGlobal m)
 global_there text store numbers classes m (items.NodeList name) there h = All-nil (IsResolvedGlobal m)
 

@@ -160,6 +160,7 @@ pair_by_lib n m found fields types (items.Declare name ty first count) None h = 
 pair_by_lib n m found fields types (items.Declare name ty first count) (Some (libs.Overflow op width)) h =
     pair_set n m types ty (pair_of types fields (slice_get found ty)) (width_of n m types fields (slice_get found ty) h.each) h
 pair_by_lib n m found fields types (items.Declare name ty first count) (Some other) h = h
+pair_by_lib n m found fields types (items.Define name ty first count entry blocks) lib h = h
 pair_by_lib n m found fields types (items.Node number) lib h = h
 pair_by_lib n m found fields types (items.NodeList name) lib h = h
 

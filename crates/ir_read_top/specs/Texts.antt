@@ -1,6 +1,7 @@
 -- What a text without function bodies is read into, or the fault for which it is refused. A text goes through phases: its
--- length, its tokens, the grammar, names. The first phase with a fault decides. This project's choice.
-use Rattle.std.specs.Prelude.{ℕ, ◌-◌, ◌<◌, ◌≤◌, ◌≡◌, List, [], length, slice_get, Option, Some, None, Result, Ok, Err}
+-- length, its tokens, the grammar, whether it defines a function, names. The first phase with a fault decides. This project's
+-- choice.
+use Rattle.std.specs.Prelude.{ℕ, ◌-◌, ◌^◌, ◌<◌, ◌≤◌, ◌≡◌, List, [], length, slice_get, All, Option, Some, None, Result, Ok, Err}
 use Rattle.std.specs.Option.{option_map_or}
 use Rattle.hw_base.specs.declared.numbers.TheConstants.{MOST_TEXT}
 use Rattle.ir_core.specs.declared.token.Token.{Token}
@@ -9,7 +10,7 @@ use Rattle.ir_core.specs.declared.refusals.Refusal.{Refusal}
 use Rattle.ir_core.specs.declared.refusals.ReadError.{ReadError}
 use Rattle.ir_core.specs.declared.refusals.ReadError.TheVariants.{Refused, OutOfMemory}
 use Rattle.ir_core.specs.declared.faults.Fault.{Fault}
-use Rattle.ir_core.specs.declared.faults.Fault.TheVariants.{BadToken, TooLarge}
+use Rattle.ir_core.specs.declared.faults.Fault.TheVariants.{BadToken, Unsupported, TooLarge}
 use Rattle.ir_core.specs.declared.faults.Limit.TheVariants.{Text}
 use Rattle.ir_core.specs.declared.lib_functions.Lib.{Lib}
 use Rattle.ir_core.specs.declared.ir_module.Module.{Module}
@@ -18,7 +19,10 @@ use Rattle.ir_core.specs.Layout.{layouts_of}
 use Rattle.ir_grammar.specs.declared.terminal.Terminal.{Terminal}
 use Rattle.ir_grammar.specs.declared.terminal.Failure.{Failure}
 use Rattle.ir_grammar.specs.declared.terminal.Failure.TheVariants as failures
-use Rattle.ir_grammar.specs.Spelled.{Store}
+use Rattle.ir_grammar.specs.declared.reader.Spellings.{Spellings}
+use Rattle.ir_grammar.specs.Spelled.{Store, store_of}
+use Rattle.ir_grammar.specs.SoundStore.{IsInRange, IsSoundStore, size_of}
+use Rattle.std.specs.Global.{Vec}
 use Rattle.ir_grammar.specs.KindOf.{text_of}
 use Rattle.ir_grammar.specs.Grammar.{nesting_limit}
 use Rattle.ir_grammar.specs.DebugNodes.{kept_nodes}
@@ -31,7 +35,7 @@ use Rattle.ir_names.specs.First.{first_fault}
 use Rattle.ir_names.specs.Faults.{name_faults}
 use Rattle.ir_names.specs.Meanings.{leads_of}
 use Rattle.ir_type_numbers.specs.Numbering.{stands_for, module_types, module_fields}
-use Rattle.ir_read_top.specs.Module.{AreLibsOf, named_marks, with_pairs, declares_of}
+use Rattle.ir_read_top.specs.Module.{first_defined, AreLibsOf, named_marks, with_pairs, declares_of}
 use Rattle.ir_read_top.specs.Globals.{AreClasses, tables, globals_of}
 
 -- a text's tokens as the grammar sees them, with its end after them
@@ -84,6 +88,7 @@ pub record IsAccepted (text : List ℕ) (m : Module) : Type 0 where
   pub cut : IsTokenisation text tokens
   pub store : Store
   pub derived : IsModule nesting_limit (sentence text tokens) store
+  pub plain : first_defined store.items ≡ None
   pub named : first_fault (name_faults text store.items store) ≡ None
   pub spelled : IsModuleOf text tokens store m
 
@@ -97,9 +102,14 @@ pub data IsFaultOf (text : List ℕ) : Refusal → Type 0 where
   flawed : (tokens : List Token) (fault : Fault) (left : ℕ) → length text ≤ MOST_TEXT → IsTokenisation text tokens
       → spelled (sentence text tokens) ≡ Err (record { fault = fault; left = left })
       → IsFaultOf text (refusal_at fault (place_with (place_after text) (sentence text tokens) left))
+  -- the first function that the text defines has this name
+  defines : (tokens : List Token) (store : Store) (name : Token) → length text ≤ MOST_TEXT → IsTokenisation text tokens
+      → IsModule nesting_limit (sentence text tokens) store → first_defined store.items ≡ Some name
+      → IsFaultOf text (refusal_at Unsupported name.place)
   -- the first fault of a name is here
   misnamed : (tokens : List Token) (store : Store) (f : NameFault) → length text ≤ MOST_TEXT → IsTokenisation text tokens
-      → IsModule nesting_limit (sentence text tokens) store → first_fault (name_faults text store.items store) ≡ Some f
+      → IsModule nesting_limit (sentence text tokens) store → first_defined store.items ≡ None
+      → first_fault (name_faults text store.items store) ≡ Some f
       → IsFaultOf text (refusal_at f.fault f.at.place)
 
 -- what reading a text returns: its module, or its fault, unless memory ran out
@@ -107,3 +117,33 @@ abbrev pub ReadsText : List ℕ → Result Module ReadError → Type 0
 ReadsText text (Ok m) = IsAccepted text m
 ReadsText text (Err (Refused refusal)) = IsFaultOf text refusal
 ReadsText text (Err OutOfMemory) = Unit {0}
+
+-- this is what the text's tokens spell, and there is little of it
+pub record IsGathered (text : List ℕ) (tokens : List Token) (store : Store) : Type 0 where
+  pub derived : IsModule nesting_limit (sentence text tokens) store
+  pub sound : IsSoundStore store
+  pub small : size_of store < 2 ^ 32
+
+-- this is what the text spells
+pub record IsRead (text : List ℕ) (store : Store) : Type 0 where
+  pub tokens : List Token
+  pub cut : IsTokenisation text tokens
+  pub gathered : IsGathered text tokens store
+
+-- what the grammar returns of a text: what it spells, or its fault, unless memory ran out
+abbrev pub Gathers : List ℕ → Result Spellings ReadError → Type 0
+Gathers text (Ok found) = IsRead text (store_of found)
+Gathers text (Err error) = ReadsText text (Err error)
+
+-- these are the text's tokens as the grammar sees them
+pub record IsSentence (text : List ℕ) (terminals : List Terminal) : Type 0 where
+  pub tokens : List Token
+  pub cut : IsTokenisation text tokens
+  pub few : length tokens ≤ length text
+  pub whole : terminals ≡ sentence text tokens
+  pub ranged : All IsInRange terminals
+
+-- what the lexer and the kinds of tokens return of a text: its tokens, or its fault, unless memory ran out
+abbrev pub Cuts : List ℕ → Result (Vec Terminal) ReadError → Type 0
+Cuts text (Ok found) = IsSentence text found.items
+Cuts text (Err error) = ReadsText text (Err error)

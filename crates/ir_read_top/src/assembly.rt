@@ -18,7 +18,7 @@ use crate::pairs::with_pairs;
 use dbg_sites::read_meta;
 use hw_base::OutOfMemory;
 use ir_core::{FunctionList, GlobalList, Lib, Module, Tokens, TypeIdList, TypeList, layouts};
-use ir_first_values::Initializers;
+use ir_first_values::{FieldOffsets, Initializers};
 use ir_grammar::Spellings;
 use ir_names::References;
 use ir_type_numbers::{NumberedTypes, classes, number_types};
@@ -147,8 +147,10 @@ fn variables(
     requires names { names.now ≡ variables_of tokens.now.source (store_of found.now).items (store_of found.now) }
     ensures { IfOk result (λ globals. globals ≡ globals_of (tables tokens.now.source (store_of found.now) numbers.now classes.now bare.now) (store_of found.now).items) }
 {
+    let offsets = FieldOffsets::new(alloc, bare)?;
     let values = Initializers {
         module: bare,
+        offsets: &offsets,
         found,
         source: tokens.source(),
         numbers,

@@ -1,5 +1,5 @@
 ghost use Rattle.std.specs.Prelude.{◌≡◌, ◌++◌, IfOk, OnOk};
-ghost use Rattle.ir_core.specs.Resolved.{HasLayouts};
+ghost use Rattle.ir_first_values.specs.Offsets.{IsReady};
 ghost use Rattle.ir_first_values.specs.Tables.{tables_of};
 ghost use Rattle.ir_read_top.specs.Globals.{global_of, globals_of};
 
@@ -19,7 +19,7 @@ fn push_global(
     item: &SpelledItem,
 ) -> Result<(), OutOfMemory>
     requires source { values.now.source.now ≡ tokens.now.source }
-    requires layouts { HasLayouts values.now.module.now }
+    requires ready { IsReady values.now }
     ensures { OnOk result (globals.new ≡ globals.old ++ global_of (tables_of values.now) item.now) }
 {
     match item {
@@ -53,7 +53,7 @@ pub(crate) fn globals_of(
     items: &[SpelledItem],
 ) -> Result<GlobalList, OutOfMemory>
     requires source { values.now.source.now ≡ tokens.now.source }
-    requires layouts { HasLayouts values.now.module.now }
+    requires ready { IsReady values.now }
     ensures { IfOk result (λ globals. globals ≡ globals_of (tables_of values.now) items.now) }
 {
     let mut globals = GlobalList::new(alloc);

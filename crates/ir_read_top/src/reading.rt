@@ -1,4 +1,4 @@
-ghost use Rattle.std.specs.Prelude.{◌≡◌, ◌<◌, ◌≤◌, ◌^◌, length, IfOk};
+ghost use Rattle.std.specs.Prelude.{◌≡◌, None, ◌<◌, ◌≤◌, ◌^◌, length, IfOk};
 ghost use Rattle.hw_base.specs.declared.numbers.TheConstants.{MOST_TEXT};
 ghost use Rattle.ir_core.specs.Resolved.{IsResolvedOutside};
 ghost use Rattle.ir_core.specs.Tokenisation.{IsTokenisation};
@@ -6,12 +6,13 @@ ghost use Rattle.ir_grammar.specs.Grammar.{nesting_limit};
 ghost use Rattle.ir_grammar.specs.Spelled.{store_of};
 ghost use Rattle.ir_grammar.specs.SoundStore.{IsSoundStore, size_of};
 ghost use Rattle.ir_read_items.specs.ItemLaws.{IsModule};
-ghost use Rattle.ir_read_top.specs.Texts.{sentence, refusal_at, place_with, names_error, flaw_error, ReadsText};
+ghost use Rattle.ir_read_top.specs.Module.{defined_name, first_defined};
+ghost use Rattle.ir_read_top.specs.Texts.{sentence, refusal_at, place_with, names_error, flaw_error, IsRead, Gathers, Cuts, ReadsText};
 
 use crate::assembly::module_of;
 use hw_base::{MOST_TEXT, OutOfMemory};
-use ir_core::{Fault, Limit, Module, Place, ReadError, Refusal, Tokens};
-use ir_grammar::{Failure, Spellings, Terminal, terminals};
+use ir_core::{Fault, Limit, Module, Place, ReadError, Refusal, Token, Tokens};
+use ir_grammar::{Failure, SpelledItem, Spellings, Terminal, terminals};
 use ir_lex::{end_of, lex};
 use ir_names::{NamesError, resolve_names};
 use ir_read_items::read_items;
@@ -66,6 +67,7 @@ fn read_names(alloc: Global, tokens: &Tokens, found: &Spellings) -> Result<Modul
     requires few { length tokens.now.tokens < 2 ^ 32 }
     requires cut { IsTokenisation tokens.now.source tokens.now.tokens }
     requires derived { IsModule nesting_limit (sentence tokens.now.source tokens.now.tokens) (store_of found.now) }
+    requires plain { first_defined (store_of found.now).items ≡ None }
     requires sound { IsSoundStore (store_of found.now) }
     requires small { size_of (store_of found.now) < 2 ^ 32 }
     ensures { ReadsText tokens.now.source result }
@@ -79,25 +81,103 @@ fn read_names(alloc: Global, tokens: &Tokens, found: &Spellings) -> Result<Modul
     }
 }
 
-/// The module of a text with these tokens, or its first fault.
-fn read_tokens(alloc: Global, tokens: &Tokens) -> Result<Module, ReadError>
+/// The name of the function that an item defines.
+fn defined_name(item: &SpelledItem) -> Option<Token>
+    ensures { result ≡ defined_name item.now }
+{
+    match item {
+        SpelledItem::Define { name, .. } => Some(*name),
+        _ => None,
+    }
+}
+
+/// The name of the first function that items define.
+fn first_defined(items: &[SpelledItem]) -> Option<Token>
+    ensures { result ≡ first_defined items.now }
+{
+    let mut rest = items;
+    while let [item, after @ ..] = rest {
+        match defined_name(item) {
+            Some(name) => return Some(name),
+            None => rest = after,
+        }
+    }
+    None
+}
+
+/// The module of what was read, or the refusal of the first function that is defined, or the first fault of a name.
+fn read_found(alloc: Global, tokens: &Tokens, found: &Spellings) -> Result<Module, ReadError>
     requires short { length tokens.now.source ≤ MOST_TEXT }
-    requires few { length tokens.now.tokens ≤ length tokens.now.source }
+    requires few { length tokens.now.tokens < 2 ^ 32 }
     requires cut { IsTokenisation tokens.now.source tokens.now.tokens }
+    requires derived { IsModule nesting_limit (sentence tokens.now.source tokens.now.tokens) (store_of found.now) }
+    requires sound { IsSoundStore (store_of found.now) }
+    requires small { size_of (store_of found.now) < 2 ^ 32 }
     ensures { ReadsText tokens.now.source result }
 {
-    let end = end_of(tokens.source());
-    let sentence = terminals(alloc, tokens, end)?;
-    match read_items(alloc, &sentence) {
-        Ok(found) => read_names(alloc, tokens, &found),
-        Err(failure) => Err(flaw_error(end, &sentence, failure)),
+    match first_defined(&found.items) {
+        Some(name) => Err(ReadError::Refused(refusal_at(Fault::Unsupported, name.place))),
+        None => read_names(alloc, tokens, found),
+    }
+}
+
+/// The tokens of a text as the grammar sees them, with the end of the text after them, or the text's first fault.
+fn sentence_of(alloc: Global, text: &[u8]) -> Result<Vec<Terminal>, ReadError>
+    requires { length text.now ≤ MOST_TEXT }
+    ensures { Cuts text.now result }
+{
+    match lex(alloc, text) {
+        Ok(tokens) => {
+            let sentence = terminals(alloc, &tokens, end_of(text))?;
+            Ok(sentence)
+        }
+        Err(error) => Err(error),
+    }
+}
+
+/// What a text spells, or its first fault. The tokens are let go with this.
+fn gathered(alloc: Global, text: &[u8]) -> Result<Spellings, ReadError>
+    requires { length text.now ≤ MOST_TEXT }
+    ensures { Gathers text.now result }
+{
+    match sentence_of(alloc, text) {
+        Ok(sentence) => match read_items(alloc, &sentence) {
+            Ok(found) => Ok(found),
+            Err(failure) => Err(flaw_error(end_of(text), &sentence, failure)),
+        },
+        Err(error) => Err(error),
+    }
+}
+
+/// The module of what a text spells, or its first fault. The text is cut into tokens once more, for its metadata: beside
+/// what the grammar needs they would take more memory than all else.
+fn read_spelled(alloc: Global, text: &[u8], found: &Spellings) -> Result<Module, ReadError>
+    requires short { length text.now ≤ MOST_TEXT }
+    requires spelled { IsRead text.now (store_of found.now) }
+    ensures { ReadsText text.now result }
+{
+    match lex(alloc, text) {
+        Ok(tokens) => read_found(alloc, &tokens, found),
+        Err(error) => Err(error),
+    }
+}
+
+/// The module of a text that isn't too long, or its first fault.
+fn read_short(alloc: Global, text: &[u8]) -> Result<Module, ReadError>
+    requires { length text.now ≤ MOST_TEXT }
+    ensures { ReadsText text.now result }
+{
+    match gathered(alloc, text) {
+        Ok(found) => read_spelled(alloc, text, &found),
+        Err(error) => Err(error),
     }
 }
 
 /// A text of LLVM IR, without function bodies for now, read into a module (LLVM Language Reference). The accepted spelling is
 /// this project's profile of it. The error is `Refused` with the first fault of the first phase that has one: TooLarge if
 /// the text has more than 16 MiB; BadToken if no token can be read; BadSyntax, Unsupported, or TooLarge for nesting, at
-/// the first token with which no module begins; Unsupported, Unknown or Twice at the first name with a fault. Line and column
+/// the first token with which no module begins, bodies included; Unsupported at the name of the first function that is
+/// defined; Unsupported, Unknown or Twice at the first name with a fault. Line and column
 /// count from 1, columns in bytes. Else memory ran out. Each number in the module names a thing that is there.
 pub fn read(alloc: Global, text: &[u8]) -> Result<Module, ReadError>
     ensures text { ReadsText text.now result }
@@ -107,8 +187,5 @@ pub fn read(alloc: Global, text: &[u8]) -> Result<Module, ReadError>
         let start = Place { line: 1, column: 1 };
         return Err(ReadError::Refused(refusal_at(Fault::TooLarge(Limit::Text), start)));
     }
-    match lex(alloc, text) {
-        Ok(tokens) => read_tokens(alloc, &tokens),
-        Err(error) => Err(error),
-    }
+    read_short(alloc, text)
 }

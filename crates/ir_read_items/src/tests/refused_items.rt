@@ -3,8 +3,6 @@ use super::*;
 #[test]
 fn texts_that_begin_no_item(rt: HostRuntime) -> Result<(), Fail> {
     let rows = [
-        ("define void @f() {", "Unsupported 1:1"),
-        ("declare void @f()\ndefine void @g() {", "Unsupported 2:1"),
         ("$c = comdat any", "Unsupported 1:1"),
         ("declare void @f()\n$c = comdat any", "Unsupported 2:1"),
         ("%t = type i8\n$c = comdat any", "Unsupported 2:1"),

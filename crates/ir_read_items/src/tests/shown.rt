@@ -118,6 +118,17 @@ fn item(alloc: Global, tokens: &Tokens, found: &SpelledItem) -> Result<String, F
             let what = format!(in alloc; ":{result}({first}+{count})")?;
             named(alloc, tokens, name, what.as_str())
         }
+        SpelledItem::Define {
+            name,
+            result,
+            first,
+            count,
+            entry,
+            blocks,
+        } => {
+            let what = format!(in alloc; ":{result}({first}+{count}){{{entry}+{blocks}}}")?;
+            named(alloc, tokens, name, what.as_str())
+        }
     }
 }
 

@@ -20,7 +20,7 @@ fn each_phase_refuses_at_its_first_fault(rt: HostRuntime) -> Result<(), Fail> {
         ("@g = global i0 0", "refused: 2 BadSyntax at 1:13"),
         ("@g = global i32", "refused: 2 BadSyntax at 1:16"),
         ("@g = global i32\n", "refused: 2 BadSyntax at 2:1"),
-        ("define void @f() { }", "refused: 3 Unsupported at 1:1"),
+        ("define void @f() { }", "refused: 2 BadSyntax at 1:20"),
         ("!foo {", "refused: 2 BadSyntax at 1:6"),
         ("declare void @f() !foo {", "refused: 2 BadSyntax at 1:24"),
         (
@@ -61,6 +61,15 @@ fn each_phase_refuses_at_its_first_fault(rt: HostRuntime) -> Result<(), Fail> {
         ("declare void @f(i8 %1, i8 %0)", "refused: 6 Twice at 1:27"),
         ("!0 = !{}\n!00 = !{}", "refused: 6 Twice at 2:1"),
         ("%t = type i8\n%\"t\" = type i8", "refused: 6 Twice at 2:1"),
+        // a definition is read by the grammar, and is refused before any name is looked at
+        (
+            "@a = global ptr @b\ndefine void @f() { ret void }\ndefine void @f() { ret void }",
+            "refused: 3 Unsupported at 2:13",
+        ),
+        (
+            "define void @f() { ret void }\n@c = global i0 0",
+            "refused: 2 BadSyntax at 2:13",
+        ),
         // an earlier phase decides, also further on in the text
         (
             "@a = global ptr @b\n@c = global i0 0",

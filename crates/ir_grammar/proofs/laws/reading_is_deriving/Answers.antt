@@ -7,6 +7,8 @@ use Rattle.ir_grammar.proofs.Complete.{again_read}
 use Rattle.ir_grammar.proofs.Viable.{begins_before}
 use Rattle.ir_grammar.proofs.Grown.{stuck, no_whole}
 use Rattle.ir_grammar.proofs.Deeper.{bracket_begins, too_few_levels}
+use Rattle.ir_grammar.proofs.Causes.{unsupported_form}
+use Rattle.ir_grammar.proofs.Unsupported.{form_unsupported, no_bad_first}
 use Rattle.ir_grammar.proofs.WellFormed.{well_formed}
 use Rattle.ir_grammar.proofs.laws.reading_is_deriving.Goals as goal
 
@@ -33,3 +35,12 @@ returns-clause-nesting c = λ levels s a front token rest st e g has_one failed 
 
 pub returns-clause-levels : goal.returns-clause-levels
 returns-clause-levels c = λ levels s a front token rest st e clear g failed at more x end d. too_few_levels shared production well_formed levels s a front token rest st e clear g failed at more x end d
+
+pub returns-clause-unsupported : goal.returns-clause-unsupported
+returns-clause-unsupported c = λ levels s a ts st e failed u. unsupported_form shared production levels s a ts st e failed u
+
+pub returns-clause-listed : goal.returns-clause-listed
+returns-clause-listed c = λ levels s a front token rest st e clear g failed at other d. form_unsupported shared production well_formed levels s a front token rest st e clear g failed at other d
+
+pub returns-clause-first : goal.returns-clause-first
+returns-clause-first c = λ levels s a token rest st e clear g k failed at b. no_bad_first shared production well_formed levels s a token rest st e clear g k failed at b

@@ -8,6 +8,8 @@ use Rattle.ir_grammar.proofs.Complete.{again_read}
 use Rattle.ir_grammar.proofs.Viable.{begins_before}
 use Rattle.ir_grammar.proofs.Grown.{stuck, no_whole}
 use Rattle.ir_grammar.proofs.Deeper.{bracket_begins, too_few_levels}
+use Rattle.ir_grammar.proofs.Causes.{unsupported_form}
+use Rattle.ir_grammar.proofs.Unsupported.{form_unsupported}
 use Rattle.ir_grammar.proofs.WellFormed.{well_formed}
 use Rattle.ir_read_body.proofs.BodyClear.{body_clear, body_goes_on, body_has, body_ends}
 use Rattle.ir_read_body.proofs.laws.bodies_are_derived.Goals as goal
@@ -35,3 +37,9 @@ returns-clause-nesting c = λ front token rest store e failed at n. bracket_begi
 
 pub returns-clause-levels : goal.returns-clause-levels
 returns-clause-levels c = λ front token rest store e failed at more blocks after d. too_few_levels shared production well_formed nesting_limit (list (base block)) function_body front token rest store e body_clear body_goes_on failed at more blocks after d
+
+pub returns-clause-unsupported : goal.returns-clause-unsupported
+returns-clause-unsupported c = λ tokens store e failed u. unsupported_form shared production nesting_limit (list (base block)) function_body tokens store e failed u
+
+pub returns-clause-listed : goal.returns-clause-listed
+returns-clause-listed c = λ front token rest store e failed at other d. form_unsupported shared production well_formed nesting_limit (list (base block)) function_body front token rest store e body_clear body_goes_on failed at other d

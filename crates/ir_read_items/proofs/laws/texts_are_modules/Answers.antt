@@ -5,9 +5,12 @@ use Rattle.ir_grammar.specs.Grammar.{production, nesting_limit}
 use Rattle.ir_grammar.proofs.Viable.{begins_before}
 use Rattle.ir_grammar.proofs.Grown.{stuck, no_whole}
 use Rattle.ir_grammar.proofs.Deeper.{bracket_begins, too_few_levels}
+use Rattle.ir_grammar.proofs.Causes.{unsupported_form}
+use Rattle.ir_grammar.proofs.Unsupported.{form_unsupported}
 use Rattle.ir_grammar.proofs.WellFormed.{well_formed}
 use Rattle.ir_read_items.specs.Items.{module_rule}
-use Rattle.ir_read_items.specs.ItemReading.{nothing_read, spelled}
+use Rattle.ir_read_body.specs.BodyReading.{nothing_read}
+use Rattle.ir_read_items.specs.ItemReading.{spelled}
 use Rattle.ir_read_items.proofs.ModuleClear.{module_clear, module_goes_on, module_has}
 use Rattle.ir_read_items.proofs.Spelled.{module_spelled, spelled_failed, text_is_module}
 use Rattle.ir_read_items.proofs.laws.texts_are_modules.Goals as goal
@@ -35,3 +38,9 @@ returns-clause-nesting c = λ front token rest e h at n. bracket_begins shared p
 
 pub returns-clause-levels : goal.returns-clause-levels
 returns-clause-levels c = λ front token rest e h at more store d. too_few_levels shared production well_formed nesting_limit nothing module_rule front token rest nothing_read e module_clear module_goes_on (spelled_failed (front ++ token ∷ rest) e h) at more tt store d
+
+pub returns-clause-unsupported : goal.returns-clause-unsupported
+returns-clause-unsupported c = λ tokens e h u. unsupported_form shared production nesting_limit nothing module_rule tokens nothing_read e (spelled_failed tokens e h) u
+
+pub returns-clause-listed : goal.returns-clause-listed
+returns-clause-listed c = λ front token rest e h at other d. form_unsupported shared production well_formed nesting_limit nothing module_rule front token rest nothing_read e module_clear module_goes_on (spelled_failed (front ++ token ∷ rest) e h) at other d

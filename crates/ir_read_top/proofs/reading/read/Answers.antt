@@ -9,11 +9,7 @@ use Rattle.ir_read_top.proofs.reading.read.Goals as goal
 pub returns-then-text-gt-MOST_TEXT-clause-text : goal.returns-then-text-gt-MOST_TEXT-clause-text
 returns-then-text-gt-MOST_TEXT-clause-text c = subst (IsFaultOf c.args.text.now) (sym c.refusal_at.ensures) (too_long c.if-text-gt-MOST_TEXT.true)
 
-pub returns-in-Ok-clause-resolved : goal.returns-in-Ok-clause-resolved
-returns-in-Ok-clause-resolved c =
+pub returns-clause-resolved : goal.returns-clause-resolved
+returns-clause-resolved c =
     let bytes : All IsByte c.args.text.now = All-from_get_or IsByte c.args.text.now 0 (λ k h. let fits = c.type_inv.text k in omega arith) in
-    resolved_answer c.args.text.now c.read_tokens.result bytes
-    (subst (λ text. ReadsText text c.read_tokens.result) c.in-Ok.ensures.lexes.0 c.read_tokens.ensures)
-
-pub returns-in-Err-clause-text : goal.returns-in-Err-clause-text
-returns-in-Err-clause-text c = bad_text c.args.text.now c.in-Err.error c.if-text-gt-MOST_TEXT.false c.in-Err.ensures.lexes
+    resolved_answer c.args.text.now c.read_short.result bytes c.read_short.ensures

@@ -25,6 +25,7 @@ returns-in-Ok-module_of c =
       cut = c.requires.cut;
       store = store;
       derived = c.requires.derived;
+      plain = c.requires.plain;
       named = resolved.faultless;
       spelled = c.in-Ok-module_of.ensures;
     }
@@ -33,6 +34,6 @@ pub returns : goal.returns
 returns c =
     let store = store_of c.args.found.now in
     subst (λ e. ReadsText c.args.tokens.now.source (Err e)) (sym c.names_error.ensures)
-    (misnamed_text c.args.tokens.now.source c.args.tokens.now.tokens store c.in-Err.error c.requires.short c.requires.cut c.requires.derived
+    (misnamed_text c.args.tokens.now.source c.args.tokens.now.tokens store c.in-Err.error c.requires.short c.requires.cut c.requires.derived c.requires.plain
     (subst (λ v. Resolves v c.args.found.now.items.items store (Err c.in-Err.error)) c.source.ensures
     (subst (λ v. Resolves c.source.result.now v store (Err c.in-Err.error)) c.deref.ensures.value c.in-Err.ensures)))

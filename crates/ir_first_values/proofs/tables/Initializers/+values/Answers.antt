@@ -27,4 +27,4 @@ pub put_elements-returns-in-Err : goal.put_elements-returns-in-Err
 put_elements-returns-in-Err t c =
     stopped_at (Unit {0}) c.in-Err.why c.args.parts.now c.loop-k.parts c.put_element.new.parts (tables_of c.args.self.now)
     (first_value c.args.levels (tables_of c.args.self.now)) c.args.ty c.args.at c.loop-k.k c.args.elements.now _ _ _
-    c.loop-k-test.true c.element_part-part.ensures.value c.in-Err.ensures c.loop-k.invariant
+    c.loop-k-test.true c.part_of-part.ensures.value c.in-Err.ensures c.loop-k.invariant

@@ -1,0 +1,13 @@
+use Rattle.std.proofs.Common.{◌≡◌, ◌++◌, length}
+use Rattle.std.specs.List.{flat_map}
+use Rattle.ir_body_names.specs.Definitions.{is_void, block_definitions}
+use Rattle.ir_body_names.specs.Views.{surroundings_of}
+use Rattle.ir_body_names.proofs.definitions.add_blocks.Given as goal
+
+abbrev pub invariant-loop-rest : goal.invariant-loop-rest
+invariant-loop-rest l =
+    l.defined.items ++ flat_map (block_definitions (is_void (surroundings_of l.names).types (surroundings_of l.names).numbers) (surroundings_of l.names).bodies.instructions) l.rest
+    ≡ l.fn.defined.items ++ flat_map (block_definitions (is_void (surroundings_of l.names).types (surroundings_of l.names).numbers) (surroundings_of l.names).bodies.instructions) l.fn.blocks
+
+abbrev pub decreases-loop-rest : goal.decreases-loop-rest
+decreases-loop-rest l = length l.rest

@@ -1,0 +1,10 @@
+use Rattle.std.proofs.Common.{◌≡◌, ◌++◌, length}
+use Rattle.std.specs.List.{flat_map}
+use Rattle.ir_body_names.specs.Uses.{attachment_uses}
+use Rattle.ir_body_names.proofs.uses.add_attachments.Given as goal
+
+abbrev pub invariant-loop-rest : goal.invariant-loop-rest
+invariant-loop-rest l = l.used.items ++ flat_map (attachment_uses l.source) l.rest ≡ l.fn.used.items ++ flat_map (attachment_uses l.source) l.fn.attachments
+
+abbrev pub decreases-loop-rest : goal.decreases-loop-rest
+decreases-loop-rest l = length l.rest

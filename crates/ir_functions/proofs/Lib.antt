@@ -1,0 +1,5 @@
+pub mod Positions
+pub mod RegisterTypes
+pub mod Registers
+pub mod Resolved
+pub mod Variables
