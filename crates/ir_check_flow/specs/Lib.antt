@@ -1,0 +1,9 @@
+pub mod Answering
+pub mod Check
+pub mod First
+pub mod Flow
+pub mod Homes
+pub mod Phis
+pub mod Questions
+pub mod Spreading
+pub mod Ways

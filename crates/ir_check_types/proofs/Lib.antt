@@ -1,0 +1,4 @@
+pub mod FirstOfSeveral
+pub mod ListParts
+pub mod TypeLists
+pub mod PassedRules
