@@ -33,16 +33,15 @@ begins-code_from m f func i (inst ∷ insts) =
     (begins-code_from m f func (suc i) insts)
 
 -- a function with variables has an entry
-has_variables : List ℕ → Bool
+abbrev pub has_variables : List ℕ → Bool
 has_variables [] = false
 has_variables (size ∷ sizes) = true
 
 begins-sizes : (m : Module) (f : Function) (func : ℕ) (insts : List Inst) (sizes : List ℕ) → begins_with_entry (map entry_mi (enter_code sizes) ++ code_from m f func 0 insts) ≡ has_variables sizes
-unfolding has_variables
 begins-sizes m f func insts [] = begins-code_from m f func 0 insts
 begins-sizes m f func insts (size ∷ sizes) = refl
 
-begins-code : (m : Module) (f : Function) (func : ℕ) → begins_with_entry (code_of_function m func f).insts ≡ has_variables f.allocas
+pub begins-code : (m : Module) (f : Function) (func : ℕ) → begins_with_entry (code_of_function m func f).insts ≡ has_variables f.allocas
 unfolding code_of_function
 begins-code m f func = begins-sizes m f func f.insts f.allocas
 
@@ -61,7 +60,7 @@ enters-variables shared (Ok after) = refl
 enters-variables shared (Err full) = tt
 
 enters-if : (setting : MachineSetting) (task func chain : ℕ) (shared : MachineShared) (sizes : List ℕ) → EntersAt (length (enter_code sizes)) (entry_if (has_variables sizes) setting task func chain shared)
-unfolding has_variables enter_step
+unfolding enter_step
 enters-if setting task func chain shared [] = refl
 enters-if setting task func chain shared (size ∷ sizes) =
     enters-variables shared (entered shared.stacks shared.memory task func (setting.word shared.drawn) (variables_of setting.program func) shared.births chain)

@@ -6,7 +6,7 @@ use Rattle.ir_core.specs.declared.lib_functions.Lib.{Lib}
 use Rattle.ir_core.specs.declared.lib_functions.Lib.TheVariants as lib
 use Rattle.mi_code.specs.declared.operands.MiOperand.{MiOperand}
 use Rattle.ir_machine.specs.State.{MachineSetting, MachineSeen, MachineOutcome}
-use Rattle.ir_machine.specs.Operands.{pointer_argument, long_argument, int_argument}
+use Rattle.ir_machine.specs.Operands.{number_in, argument_at, pointer_argument, long_argument, int_argument}
 use Rattle.ir_machine.specs.StepEnds.{goes_on}
 use Rattle.ir_machine.specs.BlockFunctions.{malloc_step, calloc_step, free_step, realloc_step}
 use Rattle.ir_machine.specs.ByteFunctions.{copy_step, set_step, memcmp_step}
@@ -34,7 +34,7 @@ library_step setting given s site lib.Getchar to args start = getchar_step s to 
 library_step setting given s site lib.Exit to args start = exit_step s (int_argument s args 0)
 library_step setting given s site lib.Abort to args start = abort_step s site
 library_step setting given s site lib.LlvmTrap to args start = abort_step s site
-library_step setting given s site lib.PthreadCreate to args start = create_step setting s site to (pointer_argument s args 0) start (pointer_argument s args 2)
+library_step setting given s site lib.PthreadCreate to args start = create_step setting s site to (pointer_argument s args 0) start (number_in s (argument_at args 2))
 library_step setting given s site lib.PthreadJoin to args start = join_step s to (long_argument s args 0)
 library_step setting given s site lib.MutexInit to args start = mutex_init_step s site to (pointer_argument s args 0)
 library_step setting given s site lib.MutexLock to args start = mutex_lock_step s site to (pointer_argument s args 0)

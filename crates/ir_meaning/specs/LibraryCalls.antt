@@ -1,6 +1,6 @@
 -- Calls of declared functions: first the accesses that the function makes, in order, and then what it does, one line a
 -- function.
-use Rattle.std.specs.Prelude.{ℕ, List, [], ◌∷◌, Option}
+use Rattle.std.specs.Prelude.{ℕ, List, [], ◌∷◌, Option, None}
 use Rattle.hw_base.specs.declared.accesses.Access.TheVariants.{Read, Free}
 use Rattle.hw_base.specs.declared.accesses.Reason.TheVariants.{IntegerOverPieces}
 use Rattle.hw_base.specs.declared.endings.Input.{Input}
@@ -65,9 +65,9 @@ function_step program next s result args values start lib.Realloc = realloc_step
 function_step program next s result args values start lib.Memcpy = copy_step s result values
 function_step program next s result args values start lib.Memmove = copy_step s result values
 function_step program next s result args values start lib.Memset = set_step s result values
-function_step program next s result args values start lib.LlvmMemcpy = copy_step s result values
-function_step program next s result args values start lib.LlvmMemmove = copy_step s result values
-function_step program next s result args values start lib.LlvmMemset = set_step s result values
+function_step program next s result args values start lib.LlvmMemcpy = copy_step s None values
+function_step program next s result args values start lib.LlvmMemmove = copy_step s None values
+function_step program next s result args values start lib.LlvmMemset = set_step s None values
 function_step program next s result args values start lib.Memcmp = memcmp_step s result values
 function_step program next s result args values start lib.Strlen = strlen_step s result values
 function_step program next s result args values start lib.Puts = puts_step s result values

@@ -39,7 +39,7 @@ use Rattle.tag_story.specs.ToldRun.{ToldSeen, source_seen}
 use Rattle.simulation.proofs.ArithmeticFollows.{IsOperandOf, one-bit}
 use Rattle.simulation.proofs.ListParts.{get-take, get-drop}
 use Rattle.simulation.proofs.OperandsThere.{operand-of}
-use Rattle.simulation.proofs.PlainSteps.{FollowsIn, own_site, at-related, integer-follows, named-follows, traps-follows}
+use Rattle.simulation.proofs.PlainSteps.{FollowsIn, own_site, at-related, others-kept, integer-follows, named-follows, traps-follows}
 use Rattle.simulation.proofs.RegisterImages.{IsSingle, register-set, past-set}
 use Rattle.simulation.specs.Parts.{IsKnownValue, HasRegisters}
 use Rattle.simulation.specs.Relation.{SeenLike, SeenRelated}
@@ -166,14 +166,15 @@ module _ (setting : MachineSetting) (t : ToldSeen) (m : MachineSeen) (f : Functi
           (get-drop block.first f.insts k phi (get-take block.phis (drop block.first f.insts) k phi found))
 
   -- the machine goes along the edge
-  goes_to-follows : IsResolvedFunction setting.program f → slice_get setting.program.functions t.frame.func ≡ Some f → (target : ℕ) → IsTarget f target → FollowsIn setting t (goes_to setting.program f (source_seen t) target) (Goes (along m (edge_to f (starts_of setting.program f) (block_holding f.blocks t.frame.inst) target)) [])
+  goes_to-follows : IsResolvedFunction setting.program f → slice_get setting.program.functions t.frame.func ≡ Some f → (target : ℕ) → IsTarget f target → FollowsIn setting t m (goes_to setting.program f (source_seen t) target) (Goes (along m (edge_to f (starts_of setting.program f) (block_holding f.blocks t.frame.inst) target)) [])
   unfolding all_told
   goes_to-follows resolved there target is =
-      named-follows setting t (slice_get f.blocks target) _ _ (λ block at.
-      named-follows setting t (phi_values setting.program t.frame.registers (block_holding f.blocks t.frame.inst) (phis_of f.insts block)) _ _ (λ given values. (
+      named-follows setting t m (slice_get f.blocks target) _ _ (λ block at.
+      named-follows setting t m (phi_values setting.program t.frame.registers (block_holding f.blocks t.frame.inst) (phis_of f.insts block)) _ _ (λ given values. (
         along m (edge_to f (starts_of setting.program f) (block_holding f.blocks t.frame.inst) target),
         refl,
         edge-related resolved there (block_holding f.blocks t.frame.inst) target block given is.later at values,
+        others-kept t m.shared,
       )))
 
   -- ---- branches
@@ -182,17 +183,17 @@ module _ (setting : MachineSetting) (t : ToldSeen) (m : MachineSeen) (f : Functi
   own_edge target = edge_to f (starts_of setting.program f) (block_holding f.blocks t.frame.inst) target
 
   abbrev FollowsTo : ℕ → Edge → Type 0
-  FollowsTo target edge = FollowsIn setting t (goes_to setting.program f (source_seen t) target) (Goes (along m edge) [])
+  FollowsTo target edge = FollowsIn setting t m (goes_to setting.program f (source_seen t) target) (Goes (along m edge) [])
 
-  pub br-follows : IsResolvedFunction setting.program f → slice_get setting.program.functions t.frame.func ≡ Some f → (target : ℕ) → IsTarget f target → FollowsIn setting t (source.br_step setting.program f (source_seen t) target) (machine.br_step m (own_edge target))
+  pub br-follows : IsResolvedFunction setting.program f → slice_get setting.program.functions t.frame.func ≡ Some f → (target : ℕ) → IsTarget f target → FollowsIn setting t m (source.br_step setting.program f (source_seen t) target) (machine.br_step m (own_edge target))
   unfolding source.br_step machine.br_step
   br-follows resolved there target is = goes_to-follows resolved there target is
 
-  pub br_if-follows : IsResolvedFunction setting.program f → slice_get setting.program.functions t.frame.func ≡ Some f → (cond : Option Value) (x : MiOperand) (first second : ℕ) → IsOperandOf t m x cond → IsTarget f first → IsTarget f second → FollowsIn setting t (source.br_if_step setting.program f (source_seen t) cond first second) (machine.br_if_step m x (own_edge first) (own_edge second))
+  pub br_if-follows : IsResolvedFunction setting.program f → slice_get setting.program.functions t.frame.func ≡ Some f → (cond : Option Value) (x : MiOperand) (first second : ℕ) → IsOperandOf t m x cond → IsTarget f first → IsTarget f second → FollowsIn setting t m (source.br_if_step setting.program f (source_seen t) cond first second) (machine.br_if_step m x (own_edge first) (own_edge second))
   unfolding source.br_if_step machine.br_if_step
   br_if-follows resolved there cond x first second test at_first at_second =
-      subst (λ bit. FollowsIn setting t (source.br_if_step setting.program f (source_seen t) cond first second) (Goes (along m (if bit then own_edge first else own_edge second)) [])) (one-bit (number_in m x))
-      (integer-follows setting t 1 cond (number_in m x) _ (λ k. Goes (along m (if is_set k then own_edge first else own_edge second)) []) test (λ k. by_bit (is_set k) (goes_to-follows resolved there first at_first) (goes_to-follows resolved there second at_second)))
+      subst (λ bit. FollowsIn setting t m (source.br_if_step setting.program f (source_seen t) cond first second) (Goes (along m (if bit then own_edge first else own_edge second)) [])) (one-bit (number_in m x))
+      (integer-follows setting t m 1 cond (number_in m x) _ (λ k. Goes (along m (if is_set k then own_edge first else own_edge second)) []) test (λ k. by_bit (is_set k) (goes_to-follows resolved there first at_first) (goes_to-follows resolved there second at_second)))
     where
       by_bit : (bit : Bool) → FollowsTo first (own_edge first) → FollowsTo second (own_edge second) → FollowsTo (if bit then first else second) (if bit then own_edge first else own_edge second)
       by_bit true h k = h
@@ -208,12 +209,12 @@ module _ (setting : MachineSetting) (t : ToldSeen) (m : MachineSeen) (f : Functi
       by_bit true h k = h
       by_bit false h k = k
 
-  pub switch-follows : IsResolvedFunction setting.program f → slice_get setting.program.functions t.frame.func ≡ Some f → (width : ℕ) (on : Option Value) (x : MiOperand) (other : ℕ) (cases : List Case) → IsOperandOf t m x on → IsTarget f other → All (IsResolvedCase setting.program f) cases → FollowsIn setting t (source.switch_step setting.program f (source_seen t) width on other cases) (machine.switch_step m width x (own_edge other) (case_edges f (starts_of setting.program f) (block_holding f.blocks t.frame.inst) cases))
+  pub switch-follows : IsResolvedFunction setting.program f → slice_get setting.program.functions t.frame.func ≡ Some f → (width : ℕ) (on : Option Value) (x : MiOperand) (other : ℕ) (cases : List Case) → IsOperandOf t m x on → IsTarget f other → All (IsResolvedCase setting.program f) cases → FollowsIn setting t m (source.switch_step setting.program f (source_seen t) width on other cases) (machine.switch_step m width x (own_edge other) (case_edges f (starts_of setting.program f) (block_holding f.blocks t.frame.inst) cases))
   unfolding source.switch_step machine.switch_step
   switch-follows resolved there width on x other cases is at_other all =
-      integer-follows setting t width on (number_in m x) _ (λ k. Goes (along m (case_for k (own_edge other) (case_edges f (starts_of setting.program f) (block_holding f.blocks t.frame.inst) cases))) []) is (λ k.
+      integer-follows setting t m width on (number_in m x) _ (λ k. Goes (along m (case_for k (own_edge other) (case_edges f (starts_of setting.program f) (block_holding f.blocks t.frame.inst) cases))) []) is (λ k.
       cases-follow resolved there k other cases all (goes_to-follows resolved there other at_other))
 
-  pub unreachable-follows : FollowsIn setting t (source.unreachable_step (source_seen t)) (machine.unreachable_step m (own_site t))
+  pub unreachable-follows : FollowsIn setting t m (source.unreachable_step (source_seen t)) (machine.unreachable_step m (own_site t))
   unfolding source.unreachable_step machine.unreachable_step
   unreachable-follows = traps-follows setting t m Unreachable like

@@ -1,5 +1,5 @@
 -- The check that is added before an access to a type: it finds what the story says, also when it looks at one granule alone.
-use Rattle.std.proofs.Common.{◌≡◌, ℕ, zero, suc, ◌+◌, ◌%◌, ◌^◌, ◌<◌, ◌≤◌, ◌==◌, ◌&&◌, ◌||◌, Bool, true, false, nat_le, if◌then◌else◌, List, ◌∷◌, slice_get, Option, Some, None, option_map, refl, sym, ◌∙◌, ap, arith}
+use Rattle.std.proofs.Common.{◌≡◌, ℕ, zero, suc, ◌+◌, ◌%◌, ◌^◌, ◌<◌, ◌≤◌, ◌==◌, ◌&&◌, ◌||◌, Bool, true, false, nat_le, if◌then◌else◌, List, [], ◌∷◌, slice_get, Option, Some, None, option_map, refl, sym, ◌∙◌, ap, arith}
 use Rattle.std.proofs.lemmas.Bool.{leb-true, eqb-true}
 use Rattle.hw_base.specs.AddressMap.{granule_of}
 use Rattle.hw_base.specs.TaggedAddress.{address_of, tagged_address}
@@ -128,7 +128,7 @@ module _ (setting : MachineSetting) (given : Input) (site : Site) (next : Machin
 -- ---- violations
 
 module _ (setting : MachineSetting) (t : ToldSeen) (m : MachineSeen) (like : SeenLike setting t m) where
-  reported : (v : Violation) (n number : ℕ) (mismatch : Mismatch) (refused : Refusing) → number ≡ pointer_number t.shared.story v.pointer → v.task ≡ t.task → v.size ≡ n → v.chain ≡ own_site t ∷ t.frame.chain → refusing_by mismatch ≡ refused
+  pub reported : (v : Violation) (n number : ℕ) (mismatch : Mismatch) (refused : Refusing) → number ≡ pointer_number t.shared.story v.pointer → v.task ≡ t.task → v.size ≡ n → v.chain ≡ own_site t ∷ t.frame.chain → refusing_by mismatch ≡ refused
       → IsReportOf t.shared.story (chain_known m (own_site t)).shared v t.step refused (record { access = v.access; size = n; number = number; task = m.task; step = m.step; chain = chain_at m (own_site t); found = Memory mismatch })
   reported v n number mismatch refused is task size chain found =
       record {
@@ -145,7 +145,7 @@ module _ (setting : MachineSetting) (t : ToldSeen) (m : MachineSeen) (like : See
       }
 
   pub by-judgement : (v : Violation) (n number : ℕ) (next : MachineSeen → MachineOutcome) (found : Option Mismatch) (judgement : Judgement) → number ≡ pointer_number t.shared.story v.pointer → v.task ≡ t.task → v.size ≡ n → v.chain ≡ own_site t ∷ t.frame.chain → FindsJudged judgement (option_map Memory found)
-      → FollowsJudged judgement t.shared.story v t.step (on_check m (own_site t) v.access n number next found)
+      → FollowsJudged judgement t.shared.story v t.step [] (on_check m (own_site t) v.access n number next found)
   by-judgement v n number next found (Passes coincidence) is task size chain h = tt
   by-judgement v n number next None (Refused refused) is task size chain h = let none = h.1.0 in absurd cc
   by-judgement v n number next (Some mismatch) (Refused refused) is task size chain h =

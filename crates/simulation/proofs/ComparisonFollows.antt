@@ -95,6 +95,11 @@ compare-after Sle start a b same = le-after start a b ∙ sym (signed-le (start 
 
 -- ---- the numbers of two pointers
 
+-- a short granule ends after its object
+pub short-rounded : (size : ℕ) → 0 < size % 16 → size < rounded_size size
+short-rounded zero h = absurd (omega (arith, h))
+short-rounded (suc n) h = omega (arith, h)
+
 pub size-rounded : (size : ℕ) → size ≤ rounded_size size
 size-rounded zero = omega arith
 size-rounded (suc n) = omega arith

@@ -32,7 +32,7 @@ fine-start (Stack func) living h = absurd cc
 fine-start Heap true h = (refl, refl)
 fine-start Heap false h = absurd cc
 
-fine-zero : (region : Region) (living zero_off : Bool) → (if zero_off then start_free region living else Violates BadFree) ≡ Fine → (zero_off ≡ true) × ((region ≡ Heap) × (living ≡ true))
+pub fine-zero : (region : Region) (living zero_off : Bool) → (if zero_off then start_free region living else Violates BadFree) ≡ Fine → (zero_off ≡ true) × ((region ≡ Heap) × (living ≡ true))
 fine-zero region living true h = (refl, fine-start region living h)
 fine-zero region living false h = absurd cc
 
@@ -45,7 +45,7 @@ fine-null w off true test h = null-passed w off (eqb-true off 0 test)
 fine-null w off false test h = absurd cc
 
 module _ (setting : MachineSetting) (objects : List Birth) (w : Story) (is : IsSetting setting) (laid : IsLaidOut (story_setting setting) w) (told : AreTold objects w.births) where
-  region-told : (o : Obj) (birth : StoryBirth) → slice_get w.births o.birth ≡ Some birth → region_of objects o ≡ birth.region
+  pub region-told : (o : Obj) (birth : StoryBirth) → slice_get w.births o.birth ≡ Some birth → region_of objects o ≡ birth.region
   region-told o birth there =
       let count = told.count in
       let within = slice_get_within w.births o.birth birth there in

@@ -141,7 +141,7 @@ tag-none (birth ∷ births) address h = by_region birth.region refl h (tag-none 
 
 -- ---- the block that the machine has at an address
 
-find-some : (blocks : List Block) (address : ℕ) (block : Block) → find (λ block. block.at == address) blocks ≡ Some block → (i : ℕ) × ((slice_get blocks i ≡ Some block) × (block.at ≡ address))
+pub find-some : (blocks : List Block) (address : ℕ) (block : Block) → find (λ block. block.at == address) blocks ≡ Some block → (i : ℕ) × ((slice_get blocks i ≡ Some block) × (block.at ≡ address))
 find-some [] address block h = absurd cc
 find-some (first ∷ blocks) address block h = by_test (first.at == address) refl h (find-some blocks address block)
   where
@@ -153,7 +153,7 @@ find-some (first ∷ blocks) address block h = by_test (first.at == address) ref
         (0, (ap (λ b. Some b) is, ap (λ (b : Block). b.at) (sym is) ∙ eqb-true first.at address here))
     by_test false other e later = let found = later e in (suc found.0, found.1)
 
-find-none : (blocks : List Block) (address : ℕ) → find (λ block. block.at == address) blocks ≡ None → (i : ℕ) (block : Block) → slice_get blocks i ≡ Some block → block.at ≢ address
+pub find-none : (blocks : List Block) (address : ℕ) → find (λ block. block.at == address) blocks ≡ None → (i : ℕ) (block : Block) → slice_get blocks i ≡ Some block → block.at ≢ address
 find-none [] address h i block there same = absurd cc
 find-none (first ∷ blocks) address h i block there same = by_test (first.at == address) refl h i there (find-none blocks address)
   where
@@ -186,13 +186,13 @@ one-tag e w laid address n k j l birth other x y first second =
 
 module _ (setting : MachineSetting) (t : ToldShared) (m : MachineShared) (related : SharedRelated setting t m) where
   -- the block's object begins where the block does
-  block-begins : (address i : ℕ) (block : Block) → slice_get m.heap.living i ≡ Some block → block.at ≡ address → (birth : StoryBirth) × (BeginsAt t.story.births address block.birth 0 birth (record { at = block.at; size = block.size; tag = block.tag }))
+  pub block-begins : (address i : ℕ) (block : Block) → slice_get m.heap.living i ≡ Some block → block.at ≡ address → (birth : StoryBirth) × (BeginsAt t.story.births address block.birth 0 birth (record { at = block.at; size = block.size; tag = block.tag }))
   block-begins address i block there at =
       let (birth, is) = related.heap.blocks.from i block there in
       (birth, record { there = is.there; heap = is.region; alive = is.alive; object = ap (λ xs. slice_get xs 0) is.objects; at = at })
 
   -- the only object of a block
-  only-object : (objects : List Placed) (placed x : Placed) (k : ℕ) → objects ≡ placed ∷ [] → slice_get objects k ≡ Some x → placed ≡ x
+  pub only-object : (objects : List Placed) (placed x : Placed) (k : ℕ) → objects ≡ placed ∷ [] → slice_get objects k ≡ Some x → placed ≡ x
   only-object objects placed x k is there = by_place k (ap (λ xs. slice_get xs k) (sym is) ∙ there)
     where
       by_place : (j : ℕ) → slice_get (placed ∷ []) j ≡ Some x → placed ≡ x
@@ -200,7 +200,7 @@ module _ (setting : MachineSetting) (t : ToldShared) (m : MachineShared) (relate
       by_place (suc j) e = absurd cc
 
   -- an object of a living block of the story is in the machine's table
-  begins-block : (address n k : ℕ) (birth : StoryBirth) (x : Placed) → BeginsAt t.story.births address n k birth x → (i : ℕ) × ((block : Block) × ((slice_get m.heap.living i ≡ Some block) × (block.at ≡ address)))
+  pub begins-block : (address n k : ℕ) (birth : StoryBirth) (x : Placed) → BeginsAt t.story.births address n k birth x → (i : ℕ) × ((block : Block) × ((slice_get m.heap.living i ≡ Some block) × (block.at ≡ address)))
   begins-block address n k birth x begins =
       let (i, block, there, number) = related.heap.blocks.to n birth begins.there begins.heap begins.alive in
       let (told, is) = related.heap.blocks.from i block there in

@@ -30,7 +30,7 @@ descriptors-count setting = length-map _ _ ∙ length-enumerate_from 0 setting.p
 globals-there : (setting : MachineSetting) (t : ToldSeen) (m : MachineSeen) (index : ℕ) → SeenLike setting t m → index < length setting.program.globals → AreGlobals t.shared.story.births m.shared.globals × (index < length m.shared.globals)
 globals-there setting t m index like below = (by_globals setting.program.globals refl like.shared.globals, let count = ap length like.shared.descriptors in let same = descriptors-count setting in omega (arith, count, same, below))
   where
-    by_globals : (globals : List GlobalVar) → setting.program.globals ≡ globals → HasGlobals setting globals t.shared.story m.shared → AreGlobals t.shared.story.births m.shared.globals
+    by_globals : (globals : List GlobalVar) → setting.program.globals ≡ globals → HasGlobals globals t.shared.story.births m.shared.globals → AreGlobals t.shared.story.births m.shared.globals
     by_globals [] are has = let none = ap length are in absurd (omega (arith, none, below))
     by_globals (g ∷ globals) are has = record { birth = has.0; there = has.1; objects = has.3 }
 

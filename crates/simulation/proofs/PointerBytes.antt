@@ -1,5 +1,5 @@
 -- The eight bytes of a pointer are those of its number.
-use Rattle.std.proofs.Common.{◌≡◌, ℕ, zero, suc, ◌+◌, ◌*◌, ◌/◌, ◌%◌, ◌^◌, ◌<◌, ◌==◌, ◌&&◌, Bool, true, false, if◌then◌else◌, List, [], ◌∷◌, length, map, slice_get, Option, Some, None, option_map, refl, sym, ◌∙◌, ap, subst, arith}
+use Rattle.std.proofs.Common.{◌≡◌, ℕ, zero, suc, ◌+◌, ◌*◌, ◌/◌, ◌%◌, ◌^◌, ◌<◌, ◌==◌, ◌&&◌, Bool, true, false, if◌then◌else◌, List, [], ◌∷◌, length, map, Option, Some, None, option_map, refl, sym, ◌∙◌, ap, subst, arith}
 use Rattle.std.proofs.lemmas.Bool.{eqb-true}
 use Rattle.hw_base.proofs.ByteLaws.{le_number-le_bytes}
 use Rattle.hw_base.specs.Bytes.{byte_of, le_bytes, le_number}
@@ -11,11 +11,8 @@ use Rattle.tag_story.specs.Story.{Placed, StoryBirth, get_placed, number_in, num
 use Rattle.simulation.proofs.ComparisonFollows.{both, same-placed}
 use Rattle.simulation.proofs.LoadFollows.{data-images}
 use Rattle.simulation.proofs.RegisterImages.{IsSingle}
-use Rattle.simulation.specs.Parts.{IsKnownValue, IsKnownByte}
-
--- all bytes are known
-abbrev pub AreKnown : List StoryBirth → List SourceByte → Type 0
-AreKnown births bytes = (i : ℕ) (byte : SourceByte) → slice_get bytes i ≡ Some byte → IsKnownByte births byte
+use Rattle.simulation.specs.Parts.{IsKnownValue}
+use Rattle.simulation.specs.Writes.{AreKnown}
 
 -- what the machine reads is the image of a value that names an object that was born
 pub record IsReadAs (births : List StoryBirth) (bytes : List SourceByte) (v : Value) : Type 0 where
@@ -25,7 +22,7 @@ pub record IsReadAs (births : List StoryBirth) (bytes : List SourceByte) (v : Va
 
 -- ---- numbers
 
-numbers-below : (births : List StoryBirth) (bytes : List SourceByte) (ns : List ℕ) → AreKnown births bytes → data_numbers bytes ≡ Some ns → le_number (map (byte_image births) bytes) < 256 ^ length bytes
+pub numbers-below : (births : List StoryBirth) (bytes : List SourceByte) (ns : List ℕ) → AreKnown births bytes → data_numbers bytes ≡ Some ns → le_number (map (byte_image births) bytes) < 256 ^ length bytes
 unfolding data_numbers le_number
 numbers-below births [] ns known h = omega arith
 numbers-below births (Data n ∷ bytes) ns known h =

@@ -34,7 +34,7 @@ module _ (setting : MachineSetting) (t : ToldSeen) (m : MachineSeen) (f : Functi
       ap (λ n. n % 2 ^ 64) same ∙ number-modulo t.shared.story.births base off ∙ offset-modulo (start_of t.shared.story.births base) off
 
   answer-follows : (pred : Pred) (p q : Base) (off other : ℕ) (x y : MiOperand) → machine_number m x ≡ number_of t.shared.story.births p off → machine_number m y ≡ number_of t.shared.story.births q other → (answer : Option Bool) → pointers_compared t.shared.source.births pred p (off % 2 ^ 64) q (other % 2 ^ 64) ≡ answer
-      → FollowsIn setting t (source.gives_comparison (source_seen t) result answer) (Rattle.ir_machine.specs.StepEnds.gives m (result_register f result) (bit_of (compare_result pred 64 (pointer_in m x) (pointer_in m y))))
+      → FollowsIn setting t m (source.gives_comparison (source_seen t) result answer) (Rattle.ir_machine.specs.StepEnds.gives m (result_register f result) (bit_of (compare_result pred 64 (pointer_in m x) (pointer_in m y))))
   unfolding all_told
   answer-follows pred p q off other x y same also None h = tt
   answer-follows pred p q off other x y same also (Some answer) h =
@@ -45,9 +45,9 @@ module _ (setting : MachineSetting) (t : ToldSeen) (m : MachineSeen) (f : Functi
       ∙ sym (compared-numbers setting t.shared is like.shared.laid like.shared.told pred p q (off % 2 ^ 64) (other % 2 ^ 64) answer
       (let small : off % 2 ^ 64 < 2 ^ 64 = omega arith in small) (let little : other % 2 ^ 64 < 2 ^ 64 = omega arith in little) h)))
 
-  pub pointers-follow : (pred : Pred) (a b : Option Value) (x y : MiOperand) → IsOperandOf t m x a → IsOperandOf t m y b → FollowsIn setting t (source.icmp_step (source_seen t) result pred Ptr a b) (machine.icmp_step m pred AddressWidth (result_register f result) x y)
+  pub pointers-follow : (pred : Pred) (a b : Option Value) (x y : MiOperand) → IsOperandOf t m x a → IsOperandOf t m y b → FollowsIn setting t m (source.icmp_step (source_seen t) result pred Ptr a b) (machine.icmp_step m pred AddressWidth (result_register f result) x y)
   unfolding source.icmp_step machine.icmp_step
   pointers-follow pred a b x y first second =
-      pointer-follows setting t a (machine_number m x) _ _ first (λ p off known same.
-      pointer-follows setting t b (machine_number m y) _ _ second (λ q other born also.
+      pointer-follows setting t m a (machine_number m x) _ _ first (λ p off known same.
+      pointer-follows setting t m b (machine_number m y) _ _ second (λ q other born also.
       answer-follows pred p q off other x y same also (pointers_compared t.shared.source.births pred p (off % 2 ^ 64) q (other % 2 ^ 64)) refl))

@@ -67,12 +67,12 @@ further births base off bytes =
     ∙ sum-modulo (start_of births base) off bytes
     ∙ sym (number-is births base ((off % 2 ^ 64 + bytes) % 2 ^ 64) (let small : (off % 2 ^ 64 + bytes) % 2 ^ 64 < 2 ^ 64 = omega arith in small))
 
-pub pointer-follows : (setting : MachineSetting) (t : ToldSeen) (o : Option Value) (number : ℕ) (go : Base → ℕ → SourceOutcome) (r : MachineOutcome) → IsNumberOf t.shared.story.births number o → ((base : Base) (off : ℕ) → IsKnownBase t.shared.story.births base → number ≡ number_of t.shared.story.births base off → FollowsIn setting t (go base (off % 2 ^ 64)) r) → FollowsIn setting t (with_pointer o go) r
+pub pointer-follows : (setting : MachineSetting) (t : ToldSeen) (m : MachineSeen) (o : Option Value) (number : ℕ) (go : Base → ℕ → SourceOutcome) (r : MachineOutcome) → IsNumberOf t.shared.story.births number o → ((base : Base) (off : ℕ) → IsKnownBase t.shared.story.births base → number ≡ number_of t.shared.story.births base off → FollowsIn setting t m (go base (off % 2 ^ 64)) r) → FollowsIn setting t m (with_pointer o go) r
 unfolding with_pointer
-pointer-follows setting t None number go r is follows = tt
-pointer-follows setting t (Some (Integer n)) number go r is follows = tt
-pointer-follows setting t (Some (Address base off)) number go r is follows = let image = is (Address base off) refl in follows base off image.1 image.0
-pointer-follows setting t (Some (IntegerAndBit n bit)) number go r is follows = tt
+pointer-follows setting t m None number go r is follows = tt
+pointer-follows setting t m (Some (Integer n)) number go r is follows = tt
+pointer-follows setting t m (Some (Address base off)) number go r is follows = let image = is (Address base off) refl in follows base off image.1 image.0
+pointer-follows setting t m (Some (IntegerAndBit n bit)) number go r is follows = tt
 
 -- ---- indices
 
@@ -148,12 +148,12 @@ module _ (setting : MachineSetting) (t : ToldSeen) (m : MachineSeen) (f : Functi
           go rest later from (let small : (at + machine.step_bytes m (step_code setting.program step)) % 2 ^ 64 < 2 ^ 64 = omega arith in small)
           ∙ omega (arith, same, sum)
 
-  pub gep-follows : IsBeforeNext setting t m f → (result : Option ℕ) (ty : ℕ) (o : Option Value) (x : MiOperand) (indices : List PlacedOperand) → IsOperandOf t m x o → All (IsResolvedPlaced setting.program f) indices → FollowsIn setting t (source.gep_step setting.program (source_seen t) result ty o indices) (machine.gep_step m (result_register f result) x (indices_code setting.program ty indices))
+  pub gep-follows : IsBeforeNext setting t m f → (result : Option ℕ) (ty : ℕ) (o : Option Value) (x : MiOperand) (indices : List PlacedOperand) → IsOperandOf t m x o → All (IsResolvedPlaced setting.program f) indices → FollowsIn setting t m (source.gep_step setting.program (source_seen t) result ty o indices) (machine.gep_step m (result_register f result) x (indices_code setting.program ty indices))
   unfolding source.gep_step machine.gep_step
   gep-follows before result ty o x indices is all =
-      pointer-follows setting t o (machine_number m x) _ _ is (λ base off known number.
-      named-follows setting t (index_steps setting.program ty indices) _ _ (λ steps are.
-      named-follows setting t (steps_bytes setting.program t.frame.registers steps) _ _ (λ bytes sum.
+      pointer-follows setting t m o (machine_number m x) _ _ is (λ base off known number.
+      named-follows setting t m (index_steps setting.program ty indices) _ _ (λ steps are.
+      named-follows setting t m (steps_bytes setting.program t.frame.registers steps) _ _ (λ bytes sum.
       gives-follows setting t m f result (Address base ((off % 2 ^ 64 + bytes) % 2 ^ 64)) _ like before known tt
       (ap (λ s. stepped_address m (pointer_in m x) (steps_code setting.program s)) are
       ∙ stepped steps bytes (pointer_in m x) (subst (IfResolvedSteps setting.program f) are (indices-resolved setting.program f ty indices all)) (let small : machine_number m x % 2 ^ 64 < 2 ^ 64 = omega arith in small) sum

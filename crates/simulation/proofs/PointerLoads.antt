@@ -40,18 +40,20 @@ use Rattle.tag_story.specs.Story.{number_of, byte_image}
 use Rattle.tag_story.specs.Telling.{all_told}
 use Rattle.tag_story.specs.ToldRun.{ToldSeen, ToldShared, source_seen}
 use Rattle.simulation.proofs.ArithmeticFollows.{IsOperandOf}
+use Rattle.simulation.proofs.CheckedAccess.{advanced-like}
 use Rattle.simulation.proofs.FinePasses.{fine-object, fine-nothing}
 use Rattle.simulation.proofs.ListParts.{get-take, get-drop, length-part}
-use Rattle.simulation.proofs.LoadFollows.{pointer-is, advanced-like, read-checked, HasCheckedCode, added-there, source-there, before-next, pointer-code, runnable-here, integer-load}
+use Rattle.simulation.proofs.LoadFollows.{pointer-is, read-checked, HasCheckedCode, added-there, source-there, before-next, pointer-code, runnable-here, integer-load}
 use Rattle.simulation.proofs.OperandsThere.{operand-of, resolved-at}
 use Rattle.simulation.proofs.PlainSteps.{FollowsIn, IsBeforeNext, own_site, gives-follows}
-use Rattle.simulation.proofs.PointerBytes.{AreKnown, pointer-read}
+use Rattle.simulation.proofs.PointerBytes.{pointer-read}
 use Rattle.simulation.proofs.PointerFollows.{pointer-follows}
 use Rattle.simulation.proofs.ReadImages.{fine-read}
 use Rattle.simulation.proofs.RegisterSteps.{source-at}
 use Rattle.simulation.proofs.Steps.{added-first}
 use Rattle.simulation.specs.Checks.{lies_inside}
 use Rattle.simulation.specs.RegisterSteps.{IsAt, IsFollowed}
+use Rattle.simulation.specs.Writes.{AreKnown}
 use Rattle.simulation.specs.Relation.{IsSetting, SharedRelated, SeenLike, SeenRelated}
 use Rattle.ir_machine.specs.State.{MachineShared}
 
@@ -62,7 +64,7 @@ module _ (setting : MachineSetting) (t : ToldShared) (m : MachineShared) (relate
   object-known o None off count there i byte h = let none = get-drop off [] i byte (get-take count (drop off []) i byte h) in absurd cc
   object-known o (Some x) off count there i byte h = related.known o x (off + i) byte there (get-drop off x.bytes i byte (get-take count (drop off x.bytes) i byte h))
 
-  bytes-known : (base : Base) (off count : ℕ) → AreKnown t.story.births (bytes_at t.source.births base off count)
+  pub bytes-known : (base : Base) (off count : ℕ) → AreKnown t.story.births (bytes_at t.source.births base off count)
   bytes-known Null off count = λ i byte h. absurd cc
   bytes-known (Object o) off count = object-known o (get_object t.source.births o) off count refl
 
@@ -83,34 +85,34 @@ module _ (setting : MachineSetting) (t : ToldShared) (m : MachineShared) (relate
 
 module _ (setting : MachineSetting) (t : ToldSeen) (m : MachineSeen) (f : Function) (is : IsSetting setting) (like : SeenLike setting t m) where
   value-read : (base : Base) (off align : ℕ) (x : MiOperand) (result : Option ℕ) → IsBeforeNext setting t (advanced m) f → pointer_in m x ≡ number_of t.shared.story.births base off → access_answer t.shared.source.births Read base off 8 align ≡ Fine
-      → FollowsIn setting t (on_read (source_seen t) (ok_or (pointer_from (bytes_at t.shared.source.births base off 8)) MixedBytes) (λ v. gives (source_seen t) result v)) (memory.load_step (advanced m) (own_site t) AddressWidth (result_register f result) x)
+      → FollowsIn setting t m (on_read (source_seen t) (ok_or (pointer_from (bytes_at t.shared.source.births base off 8)) MixedBytes) (λ v. gives (source_seen t) result v)) (memory.load_step (advanced m) (own_site t) AddressWidth (result_register f result) x)
   unfolding memory.load_step on_read all_told
   value-read base off align x result before pointer fine =
-      subst (λ r. FollowsIn setting t (on_read (source_seen t) (ok_or (pointer_from (bytes_at t.shared.source.births base off 8)) MixedBytes) (λ v. gives (source_seen t) result v)) (on_bytes (advanced m) (own_site t) Read 8 (pointer_in m x) r (λ bytes. Rattle.ir_machine.specs.StepEnds.gives (advanced m) (result_register f result) (number_of_bytes 64 bytes))))
+      subst (λ r. FollowsIn setting t m (on_read (source_seen t) (ok_or (pointer_from (bytes_at t.shared.source.births base off 8)) MixedBytes) (λ v. gives (source_seen t) result v)) (on_bytes (advanced m) (own_site t) Read 8 (pointer_in m x) r (λ bytes. Rattle.ir_machine.specs.StepEnds.gives (advanced m) (result_register f result) (number_of_bytes 64 bytes))))
       (sym (ap (λ n. Rattle.tbi_memory.specs.AddressSpace.read m.shared.memory n 8) pointer ∙ fine-read setting t.shared m.shared is like.shared Read base off 8 align (λ same. absurd cc) fine))
       (by_value (pointer_from (bytes_at t.shared.source.births base off 8)) refl)
     where
       by_value : (o : Option Value) → pointer_from (bytes_at t.shared.source.births base off 8) ≡ o
-          → FollowsIn setting t (on_read (source_seen t) (ok_or o MixedBytes) (λ v. gives (source_seen t) result v)) (Rattle.ir_machine.specs.StepEnds.gives (advanced m) (result_register f result) (number_of_bytes 64 (map (byte_image t.shared.story.births) (bytes_at t.shared.source.births base off 8))))
+          → FollowsIn setting t m (on_read (source_seen t) (ok_or o MixedBytes) (λ v. gives (source_seen t) result v)) (Rattle.ir_machine.specs.StepEnds.gives (advanced m) (result_register f result) (number_of_bytes 64 (map (byte_image t.shared.story.births) (bytes_at t.shared.source.births base off 8))))
       by_value None here = tt
       by_value (Some v) here =
           let read = pointer-read t.shared.story.births (bytes_at t.shared.source.births base off 8) v (fine-length setting t.shared m.shared like.shared base off 7 align fine) (bytes-known setting t.shared m.shared like.shared base off 8) here in
-          gives-follows setting t (advanced m) f result v _ (advanced-like setting t m f is like) before read.known read.one read.image
+          gives-follows setting t (advanced m) f result v _ (advanced-like setting t m is like) before read.known read.one read.image
 
 -- ---- the step
 
 module _ (setting : MachineSetting) (given : Input) (t : ToldSeen) (m : MachineSeen) (f : Function) (inst : Inst) (is : IsSetting setting) (at : IsAt setting.program t f inst) (related : SeenRelated setting t m) where
   pointer-loaded : (align : ℕ) (value : Option Value) (x : MiOperand) → is_alignment align ≡ true → IsOperandOf t m x value → HasCheckedCode setting given t m f inst is at related (check_of 8 align x Read) (Load AddressWidth (result_register f inst.result) x)
-      → FollowsIn setting t (source.load_step (source_seen t) inst.result Ptr align value) (machine.machine_step setting given m)
+      → FollowsIn setting t m (source.load_step (source_seen t) inst.result Ptr align value) (machine.machine_step setting given m)
   unfolding source.load_step
   pointer-loaded align value x aligned operand has =
       let (go, (first, later)) = added-first setting given m (own_site t) (check_of 8 align x Read) (Load AddressWidth (result_register f inst.result) x) (added-there setting given t m f inst is at related _ _ has) (source-there setting given t m f inst is at related _ _ has) in
       let (last, load) = later (advanced m) (source-there setting given t m f inst is at related _ _ has) in
-      subst (λ r. FollowsIn setting t (source.load_step (source_seen t) inst.result Ptr align value) r) (sym first)
-      (pointer-follows setting t value (machine_number m x) _ _ operand (λ base off known number.
+      subst (λ r. FollowsIn setting t m (source.load_step (source_seen t) inst.result Ptr align value) r) (sym first)
+      (pointer-follows setting t m value (machine_number m x) _ _ operand (λ base off known number.
       let pointer = pointer-is setting t m f is related.like x base off number in
       read-checked setting t m f is related.like given base (off % 2 ^ 64) 8 align x go _ (omega arith) (omega arith) aligned pointer (λ fine.
-      subst (λ r. FollowsIn setting t (on_read (source_seen t) (ok_or (pointer_from (bytes_at t.shared.source.births base (off % 2 ^ 64) 8)) MixedBytes) (λ v. gives (source_seen t) inst.result v)) r) (sym load)
+      subst (λ r. FollowsIn setting t m (on_read (source_seen t) (ok_or (pointer_from (bytes_at t.shared.source.births base (off % 2 ^ 64) 8)) MixedBytes) (λ v. gives (source_seen t) inst.result v)) r) (sym load)
       (value-read setting t m f is related.like base (off % 2 ^ 64) align x inst.result (before-next setting given t m f inst is at related _ _ has) pointer fine))))
 
   -- what the source does at a load of a type
@@ -119,16 +121,16 @@ module _ (setting : MachineSetting) (given : Input) (t : ToldSeen) (m : MachineS
       source-at setting.program given t f inst at ∙ ap (λ o. source_operation setting.program given f (source_seen t) inst.result o) same ∙ ap (λ y. source.load_step (source_seen t) inst.result y align (value_of setting.program (source_seen t) place)) typed
 
   -- a load of a type that isn't one of numbers is stuck
-  stuck-load : (ty align : ℕ) (place : Placed) (type : IrType) → inst.op ≡ op.Load ty place align → type_of setting.program ty ≡ type → FollowsIn setting t (source.load_step (source_seen t) inst.result type align (value_of setting.program (source_seen t) place)) (machine.machine_step setting given m) → FollowsIn setting t (source_step setting.program given (source_seen t)) (machine.machine_step setting given m)
-  stuck-load ty align place type same typed h = subst (λ outcome. FollowsIn setting t outcome (machine.machine_step setting given m)) (sym (load-at ty align place type same typed)) h
+  stuck-load : (ty align : ℕ) (place : Placed) (type : IrType) → inst.op ≡ op.Load ty place align → type_of setting.program ty ≡ type → FollowsIn setting t m (source.load_step (source_seen t) inst.result type align (value_of setting.program (source_seen t) place)) (machine.machine_step setting given m) → FollowsIn setting t m (source_step setting.program given (source_seen t)) (machine.machine_step setting given m)
+  stuck-load ty align place type same typed h = subst (λ outcome. FollowsIn setting t m outcome (machine.machine_step setting given m)) (sym (load-at ty align place type same typed)) h
 
-  own-load : (ty align : ℕ) (place : Placed) → inst.op ≡ op.Load ty place align → (type : IrType) → type_of setting.program ty ≡ type → FollowsIn setting t (source_step setting.program given (source_seen t)) (machine.machine_step setting given m)
+  own-load : (ty align : ℕ) (place : Placed) → inst.op ≡ op.Load ty place align → (type : IrType) → type_of setting.program ty ≡ type → FollowsIn setting t m (source_step setting.program given (source_seen t)) (machine.machine_step setting given m)
   unfolding source.load_step
   own-load ty align place same (Int width) typed = integer-load setting given t m f inst is at related ty width align place same typed
   own-load ty align place same Ptr typed =
       let resolved = subst (IsResolvedOp setting.program f) same (resolved-at setting.program t.frame.func t.frame.inst f inst is.runnable at.function at.instruction) in
       let access = subst (IsRunnableOp setting.program) same (runnable-here setting given t m f inst is at related) in
-      subst (λ outcome. FollowsIn setting t outcome (machine.machine_step setting given m)) (sym (load-at ty align place Ptr same typed))
+      subst (λ outcome. FollowsIn setting t m outcome (machine.machine_step setting given m)) (sym (load-at ty align place Ptr same typed))
       (pointer-loaded align (value_of setting.program (source_seen t) place) (operand_of place) access.alignment (operand-of setting t m f place related.like resolved.1) (pointer-code setting given t m f inst is at related ty align place same typed))
   own-load ty align place same Void typed = stuck-load ty align place Void same typed tt
   own-load ty align place same (Array count item) typed = stuck-load ty align place (Array count item) same typed tt

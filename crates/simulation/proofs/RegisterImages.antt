@@ -14,7 +14,7 @@ IsSingle (Integer n) = Unit {0}
 IsSingle (Address base off) = Unit {0}
 IsSingle (IntegerAndBit n bit) = ⊥
 
-single-bit : (numbers : List ℕ) (r : ℕ) (v : Value) → IsSingle v → HasBit numbers r v
+pub single-bit : (numbers : List ℕ) (r : ℕ) (v : Value) → IsSingle v → HasBit numbers r v
 single-bit numbers r (Integer n) s = tt
 single-bit numbers r (Address base off) s = tt
 single-bit numbers r (IntegerAndBit n bit) s = absurd s

@@ -75,17 +75,17 @@ source-at program given t f inst at =
 
 -- the machine's own step, after what the source's is
 pub by-code : (setting : MachineSetting) (given : Input) (t : ToldSeen) (m : MachineSeen) (f : Function) (inst : Inst) (op : MiOp) → IsSetting setting → IsAt setting.program t f inst → SeenRelated setting t m → HasCode setting.program f (own_site t) inst op
-    → ((next : MachineSeen → MachineOutcome) → IsBeforeNext setting t m f → FollowsIn setting t (source.operation_step setting.program given f (source_seen t) inst.result inst.op) (machine.operation_step setting given (own_site t) next m op))
-    → FollowsIn setting t (source.source_step setting.program given (source_seen t)) (machine.machine_step setting given m)
+    → ((next : MachineSeen → MachineOutcome) → IsBeforeNext setting t m f → FollowsIn setting t m (source.operation_step setting.program given f (source_seen t) inst.result inst.op) (machine.operation_step setting given (own_site t) next m op))
+    → FollowsIn setting t m (source.source_step setting.program given (source_seen t)) (machine.machine_step setting given m)
 by-code setting given t m f inst op is at related has follows =
     let step = plain-step setting given t m f inst op is at related has in
-    subst (λ r. FollowsIn setting t (source.source_step setting.program given (source_seen t)) r) (sym step.1)
-    (subst (λ o. FollowsIn setting t o (machine.operation_step setting given (own_site t) step.0 m op)) (sym (source-at setting.program given t f inst at))
+    subst (λ r. FollowsIn setting t m (source.source_step setting.program given (source_seen t)) r) (sym step.1)
+    (subst (λ o. FollowsIn setting t m o (machine.operation_step setting given (own_site t) step.0 m op)) (sym (source-at setting.program given t f inst at))
     (follows step.0 (before-next setting t m f inst op at related has)))
 
 module _ (setting : MachineSetting) (given : Input) (t : ToldSeen) (m : MachineSeen) (f : Function) (inst : Inst) (is : IsSetting setting) (at : IsAt setting.program t f inst) (related : SeenRelated setting t m) where
   abbrev Followed : Op → Type 0
-  Followed o = inst.op ≡ o → IsResolvedOp setting.program f o → FollowsIn setting t (source.source_step setting.program given (source_seen t)) (machine.machine_step setting given m)
+  Followed o = inst.op ≡ o → IsResolvedOp setting.program f o → FollowsIn setting t m (source.source_step setting.program given (source_seen t)) (machine.machine_step setting given m)
 
   -- nothing is added to an operation, and its code is this machine instruction
   abbrev IsCodeOf : Op → MiOp → Type 0
@@ -99,11 +99,11 @@ module _ (setting : MachineSetting) (given : Input) (t : ToldSeen) (m : MachineS
 
   -- the machine instruction of an instruction of a register step
   by-step : (o : Op) (mi : MiOp) → inst.op ≡ o → IsCodeOf o mi
-      → ((next : MachineSeen → MachineOutcome) → IsBeforeNext setting t m f → FollowsIn setting t (source.operation_step setting.program given f (source_seen t) inst.result o) (machine.operation_step setting given (own_site t) next m mi))
-      → FollowsIn setting t (source.source_step setting.program given (source_seen t)) (machine.machine_step setting given m)
+      → ((next : MachineSeen → MachineOutcome) → IsBeforeNext setting t m f → FollowsIn setting t m (source.operation_step setting.program given f (source_seen t) inst.result o) (machine.operation_step setting given (own_site t) next m mi))
+      → FollowsIn setting t m (source.source_step setting.program given (source_seen t)) (machine.machine_step setting given m)
   by-step o mi same code follows =
       by-code setting given t m f inst mi is at related (has-code o mi same code) (λ next before.
-      subst (λ x. FollowsIn setting t (source.operation_step setting.program given f (source_seen t) inst.result x) (machine.operation_step setting given (own_site t) next m mi)) (sym same) (follows next before))
+      subst (λ x. FollowsIn setting t m (source.operation_step setting.program given f (source_seen t) inst.result x) (machine.operation_step setting given (own_site t) next m mi)) (sym same) (follows next before))
 
   operand : (placed : Placed) → IsResolvedPlaced setting.program f placed → IsOperandOf t m (operand_of placed) (source.value_of setting.program (source_seen t) placed)
   operand placed resolved = operand-of setting t m f placed related.like resolved
@@ -144,7 +144,7 @@ module _ (setting : MachineSetting) (given : Input) (t : ToldSeen) (m : MachineS
   icmp pred a b same resolved =
       by-step (op.Icmp pred a b) _ same (refl, refl) (λ next before. by_type before (type_of setting.program a.ty))
     where
-      by_type : IsBeforeNext setting t m f → (type : IrType) → FollowsIn setting t (icmp_step (source_seen t) inst.result pred type (source.value_of setting.program (source_seen t) a) (source.value_of setting.program (source_seen t) b)) (Rattle.ir_machine.specs.ArithmeticSteps.icmp_step m pred (width_of_type type) (result_register f inst.result) (operand_of a) (operand_of b))
+      by_type : IsBeforeNext setting t m f → (type : IrType) → FollowsIn setting t m (icmp_step (source_seen t) inst.result pred type (source.value_of setting.program (source_seen t) a) (source.value_of setting.program (source_seen t) b)) (Rattle.ir_machine.specs.ArithmeticSteps.icmp_step m pred (width_of_type type) (result_register f inst.result) (operand_of a) (operand_of b))
       by_type before (Int width) = icmp-follows setting t m f related.like before inst.result pred width _ _ (operand_of a) (operand_of b) (operand a resolved.0) (operand b resolved.1)
       by_type before Ptr = pointers-follow setting t m f is related.like before inst.result pred _ _ (operand_of a) (operand_of b) (operand a resolved.0) (operand b resolved.1)
       by_type before Void = tt

@@ -1,6 +1,6 @@
 -- The parts of the relation between the source run with its story and the machine, each over the components that it speaks
 -- of: objects and the story, memory with its tags, the tables of blocks, frames and globals, chains, and registers.
-use Rattle.std.specs.Prelude.{◌≡◌, ℕ, ◌+◌, ◌-◌, ◌*◌, ◌%◌, ◌<◌, ◌≤◌, true, ◌==◌, List, [], ◌∷◌, map, length, is_some, slice_get, slice_index, Option, Some}
+use Rattle.std.specs.Prelude.{◌≡◌, ℕ, ◌+◌, ◌-◌, ◌*◌, ◌%◌, ◌<◌, ◌≤◌, Bool, true, false, ◌==◌, List, [], ◌∷◌, map, length, is_some, slice_get, slice_index, Option, Some}
 use Rattle.std.specs.List.{filter, list_any}
 use Rattle.hw_base.specs.AddressMap.{rounded_size}
 use Rattle.hw_base.specs.declared.pointers.Base.{Base}
@@ -19,6 +19,7 @@ use Rattle.ir_meaning.specs.Births.{Stack, Heap, Birth, SourceObject, Dead, is_l
 use Rattle.ir_meaning.specs.Values.{Value, Integer, Address, IntegerAndBit, SourceByte, Data, Piece}
 use Rattle.tag_story.specs.Story.{StorySetting, Placed, StoryBirth, OpenFrame, FreedBlock, EndedFrame, Story, get_placed, value_image, byte_image}
 use Rattle.tag_story.specs.StoryTags.{memory_tag}
+use Rattle.tag_story.specs.Telling.{variables_from}
 
 -- ---- objects and the story
 
@@ -71,6 +72,16 @@ pub record HasBytes (objects : List Birth) (births : List StoryBirth) (bytes : L
   pub last : (o : Obj) (x : SourceObject) (placed : Placed) → get_object objects o ≡ Some x → get_placed births o ≡ Some placed
       → is_living x.life ≡ true → 0 < placed.size % 16 → byte_at bytes (placed.at + rounded_size placed.size - 1) ≡ Some placed.tag
 
+-- the constants are in this range of memory, and no other object is below its end
+abbrev pub LiesAsConstant : (constant : Bool) → (at end : ℕ) → Placed → Type 0
+LiesAsConstant true at end x = (at ≤ x.at) × (x.at + rounded_size x.size ≤ end)
+LiesAsConstant false at end x = end ≤ x.at
+
+abbrev pub HasConstants : List Birth → List StoryBirth → (at end : ℕ) → Type 0
+HasConstants objects births at end =
+    (o : Obj) (x : SourceObject) (placed : Placed) → get_object objects o ≡ Some x → get_placed births o ≡ Some placed
+    → LiesAsConstant x.constant at end placed
+
 -- what is mapped stays mapped, and nothing else is
 abbrev pub IsMapped : StorySetting → List Range → Type 0
 IsMapped e bytes =
@@ -99,14 +110,22 @@ pub record HasBlocks (table : List ChainEntry) (births : List StoryBirth) (block
   pub to : (n : ℕ) (birth : StoryBirth) → slice_get births n ≡ Some birth → birth.region ≡ Heap → is_living birth.life ≡ true
       → (i : ℕ) × (block : Block) × (slice_get blocks i ≡ Some block) × (block.birth ≡ n)
 
--- a remembered block is the one that was freed
+-- a remembered block is this one of the story, which is dead
 pub record IsFreedOf (table : List ChainEntry) (births : List StoryBirth) (freed : Freed) (x : FreedBlock) : Type 0 where
   pub birth : freed.block.birth ≡ x.birth
-  pub at : freed.block.at ≡ x.block.at
-  pub size : freed.block.size ≡ x.block.size
-  pub tag : freed.block.tag ≡ x.block.tag
-  pub chains : (birth : StoryBirth) → slice_get births x.birth ≡ Some birth
-      → IsChain table freed.block.born birth.born × ((task : ℕ) (chain : List Site) → birth.life ≡ Dead task chain → IsChain table freed.died chain)
+  pub block : x.block ≡ record { at = freed.block.at; size = freed.block.size; tag = freed.block.tag }
+  pub story : StoryBirth
+  pub there : slice_get births x.birth ≡ Some story
+  pub chain : List Site
+  pub dead : story.life ≡ Dead x.task chain
+  pub born : IsChain table freed.block.born story.born
+  pub died : IsChain table freed.died chain
+
+-- freed blocks are in the heap
+abbrev pub AreInHeap : (from end : ℕ) → List FreedBlock → Type 0
+AreInHeap from end freed =
+    (i : ℕ) (x : FreedBlock) → slice_get freed i ≡ Some x
+    → (x.block.at % 16 ≡ 0) × (from ≤ x.block.at) × (x.block.at + rounded_size x.block.size ≤ end)
 
 -- two lists item by item
 abbrev pub AreEach : {X Y : Type 0} → (X → Y → Type 0) → List X → List Y → Type 0
@@ -125,18 +144,43 @@ freed_by_task task freed = filter (λ (x : FreedBlock). x.task == task) freed
 pub record IsFrameOf (table : List ChainEntry) (births : List StoryBirth) (living : LivingFrame) (frame : OpenFrame) : Type 0 where
   pub birth : living.frame.birth ≡ frame.birth
   pub low : living.frame.low ≡ frame.low
-  pub told : (birth : StoryBirth) → slice_get births frame.birth ≡ Some birth
-      → (birth.region ≡ Stack living.frame.func) × (map (λ (x : Placed). x.size) birth.objects ≡ living.sizes) × IsChain table living.frame.born birth.born
+  pub story : StoryBirth
+  pub there : slice_get births frame.birth ≡ Some story
+  pub region : story.region ≡ Stack living.frame.func
+  pub alive : is_living story.life ≡ true
+  pub objects : story.objects ≡ variables_from living.frame.word 0 living.frame.low living.sizes
+  pub born : IsChain table living.frame.born story.born
+
+-- living frames are births that happened, each its own
+pub record AreOpen (births : List StoryBirth) (frames : List OpenFrame) : Type 0 where
+  pub below : (i : ℕ) (frame : OpenFrame) → slice_get frames i ≡ Some frame → frame.birth < length births
+  pub once : (i j : ℕ) (f g : OpenFrame) → slice_get frames i ≡ Some f → slice_get frames j ≡ Some g → f.birth ≡ g.birth → i ≡ j
 
 abbrev pub frames_of_task : (task : ℕ) → List OpenFrame → List OpenFrame
 frames_of_task task frames = filter (λ (frame : OpenFrame). frame.task == task) frames
 
--- a remembered frame is one that ended
-pub record IsEndedOf (births : List StoryBirth) (ended : FrameRecord) (x : EndedFrame) : Type 0 where
+-- a remembered frame is this one of the story, which is dead
+pub record IsEndedOf (table : List ChainEntry) (births : List StoryBirth) (ended : FrameRecord) (x : EndedFrame) : Type 0 where
   pub birth : ended.birth ≡ x.birth
+  pub story : StoryBirth
+  pub there : slice_get births x.birth ≡ Some story
+  pub region : story.region ≡ Stack ended.func
+  pub objects : story.objects ≡ variables_from ended.word 0 ended.low (map (λ (y : Placed). y.size) story.objects)
+  pub chain : List Site
+  pub dead : story.life ≡ Dead x.task chain
+  pub number : ℕ
+  pub died_at : ended.died ≡ Some number
+  pub born : IsChain table ended.born story.born
+  pub died : IsChain table number chain
 
 abbrev pub ended_by_task : (task : ℕ) → List EndedFrame → List EndedFrame
 ended_by_task task ended = filter (λ (x : EndedFrame). x.task == task) ended
+
+-- all that the story remembers is of tasks that were started
+pub record AreStarted (tasks : ℕ) (w : Story) : Type 0 where
+  pub freed : (i : ℕ) (x : FreedBlock) → slice_get w.freed i ≡ Some x → x.task < tasks
+  pub ended : (i : ℕ) (x : EndedFrame) → slice_get w.ended i ≡ Some x → x.task < tasks
+  pub frames : (i : ℕ) (x : OpenFrame) → slice_get w.frames i ≡ Some x → x.task < tasks
 
 -- ---- registers
 

@@ -37,4 +37,4 @@ pub record IsAt (program : Module) (t : ToldSeen) (f : Function) (inst : Inst) :
 -- the machine follows the source's step at this instruction, whatever the input gives next
 abbrev pub IsFollowed : MachineSetting → ToldSeen → MachineSeen → Type 0
 IsFollowed setting t m =
-    (input : List ℕ) → Follows setting t.step (told_step (story_setting setting) input t) (machine_step setting (next_input input t.shared.source.input) m)
+    (input : List ℕ) → Follows setting t m.shared (told_step (story_setting setting) input t) (machine_step setting (next_input input t.shared.source.input) m)

@@ -1,29 +1,37 @@
-ghost use Rattle.std.specs.Prelude.{◌≡◌, ◌≢◌, ℕ, true, List, None, Option, Ok, map, option_map};
+ghost use Rattle.std.specs.Prelude.{◌≡◌, ◌≢◌, ℕ, true, List, [], None, Option, Ok, Err, length, map, option_map};
 ghost use Rattle.hw_base.specs.declared.accesses.Access.{Access};
-ghost use Rattle.hw_base.specs.declared.accesses.Access.TheVariants.{Free};
+ghost use Rattle.hw_base.specs.declared.accesses.Access.TheVariants.{Free, Write};
 ghost use Rattle.hw_base.specs.declared.pointers.Base.{Base};
 ghost use Rattle.ir_core.specs.declared.ir_module.Function.{Function};
 ghost use Rattle.ir_core.specs.declared.ir_module.Inst.{Inst};
 ghost use Rattle.ir_core.specs.declared.operands.Placed.{Placed};
-ghost use Rattle.ir_core.specs.declared.operations.Op.TheVariants.{Load};
-ghost use Rattle.ir_machine.specs.State.{MachineSeen, MachineSetting, MachineShared};
+ghost use Rattle.ir_core.specs.declared.operations.Op.TheVariants.{CmpXchg, Load, Rmw, Store};
+ghost use Rattle.hw_base.specs.declared.operators.RmwOp.{RmwOp};
+ghost use Rattle.hw_base.specs.TaggedAddress.{address_of};
+ghost use Rattle.hw_tags.specs.TaskRuns.{run_from, world_step};
+ghost use Rattle.ir_machine.specs.Runs.{machine_run, step_in};
+ghost use Rattle.ir_machine.specs.Start.{machine_start, shared_at_start};
+ghost use Rattle.ir_machine.specs.State.{MachineSeen, MachineSetting, MachineShared, MachineWorld};
 ghost use Rattle.ir_machine.specs.declared.found.Found.TheVariants.{Block, Memory};
-ghost use Rattle.ir_meaning.specs.AccessRule.{Fine, access_answer};
+ghost use Rattle.ir_meaning.specs.AccessRule.{Fine, WritesConstant, access_answer};
 ghost use Rattle.ir_meaning.specs.Births.{Birth, bytes_at};
 ghost use Rattle.ir_meaning.specs.State.{News};
-ghost use Rattle.ir_meaning.specs.Values.{Value};
+ghost use Rattle.ir_meaning.specs.Values.{SourceByte, Value};
+ghost use Rattle.simulation.specs.Writes.{AreKnown, put_memory, put_told};
 ghost use Rattle.simulation.specs.RegisterSteps.{IsAt, IsFollowed, is_register_step};
 ghost use Rattle.simulation.specs.Checks.{FindsJudged, IsPassed, lies_inside};
 ghost use Rattle.simulation.specs.Images.{Stays};
 ghost use Rattle.simulation.specs.Parts.{AreTold, HasRegisters, IsKnownValue};
-ghost use Rattle.simulation.specs.Relation.{IsSetting, SeenRelated, SharedRelated, story_setting};
+ghost use Rattle.simulation.specs.FollowingRuns.{FollowsRun, FollowsWorldStep, told_at_start};
+ghost use Rattle.simulation.specs.Relation.{IsSetting, SeenRelated, SharedRelated, WorldRelated, story_setting};
 ghost use Rattle.tag_alloc.specs.HeapBlocks.{free_mismatch};
 ghost use Rattle.tag_story.specs.Judging.{access_judged, free_judged, refusing};
 ghost use Rattle.tag_story.specs.Story.{Story, StoryBirth, StorySetting, byte_image, number_of, value_image};
 ghost use Rattle.tag_story.specs.StoryFacts.{IsLaidOut};
 ghost use Rattle.tag_story.specs.Telling.{all_told};
-ghost use Rattle.tag_story.specs.ToldRun.{ToldSeen, ToldShared};
-ghost use Rattle.tbi_memory.specs.AddressSpace.{check, read};
+ghost use Rattle.tag_story.specs.ToldRun.{ToldSeen, ToldShared, ToldWorld, told_run, told_run_from, told_start, told_world_step};
+ghost use Rattle.tbi_memory.specs.AddressSpace.{check, read, with_bytes, written};
+ghost use Rattle.tbi_memory.specs.declared.mem_fault.MemFault.TheVariants.{ReadOnly};
 
 /// Births and deaths move no object that was born before and change no tag, so that the number of a value stays, and
 /// registers that have the images of values go on to have them. The function does nothing when it runs.
@@ -87,4 +95,80 @@ pub fn loads_are_followed()
     ensures { (setting : MachineSetting) (t : ToldSeen) (m : MachineSeen) (f : Function) (inst : Inst) (ty align : ℕ) (at : Placed)
         → IsSetting setting → IsAt setting.program t f inst → inst.op ≡ Load ty at align
         → SeenRelated setting t m → IsFollowed setting t m }
+{}
+
+/// A write that the access rule finds fine keeps states related: memory takes the images of the bytes, no other object's byte
+/// changes, nor a last byte that has a tag. A write to a constant is refused, by the range of the constants. The function does
+/// nothing when it runs.
+pub fn writes_keep_the_relation()
+    ensures taken { (setting : MachineSetting) (t : ToldShared) (m : MachineShared) (base : Base) (off align : ℕ) (numbers : List ℕ)
+        → IsSetting setting → SharedRelated setting t m → access_answer t.source.births Write base off (length numbers) align ≡ Fine
+        → written m.memory (number_of t.story.births base off) numbers
+        ≡ Ok (with_bytes m.memory (address_of (number_of t.story.births base off)) numbers) }
+    ensures related { (setting : MachineSetting) (t : ToldShared) (m : MachineShared) (base : Base) (off align : ℕ) (bytes : List SourceByte)
+        → IsSetting setting → SharedRelated setting t m → access_answer t.source.births Write base off (length bytes) align ≡ Fine
+        → AreKnown t.story.births bytes
+        → SharedRelated setting (put_told t base off bytes)
+        (put_memory m (address_of (number_of t.story.births base off)) (map (byte_image t.story.births) bytes)) }
+    ensures constants { (setting : MachineSetting) (t : ToldShared) (m : MachineShared) (base : Base) (off align : ℕ) (numbers : List ℕ)
+        → IsSetting setting → SharedRelated setting t m
+        → access_answer t.source.births Write base off (length numbers) align ≡ WritesConstant
+        → written m.memory (number_of t.story.births base off) numbers ≡ Err ReadOnly }
+{}
+
+/// In related states the machine follows each store, of an integer or a pointer, with the check before it: a fine one writes the
+/// images of the same bytes, one to a constant traps, and a violation is reported if the tag rule refuses it. The function does
+/// nothing when it runs.
+pub fn stores_are_followed()
+    ensures { (setting : MachineSetting) (t : ToldSeen) (m : MachineSeen) (f : Function) (inst : Inst) (value at : Placed) (align : ℕ)
+        → IsSetting setting → IsAt setting.program t f inst → inst.op ≡ Store value at align
+        → SeenRelated setting t m → IsFollowed setting t m }
+{}
+
+/// In related states the machine follows each `atomicrmw` and each `cmpxchg`, with the check before it, as it does a load and a
+/// store. The function does nothing when it runs.
+pub fn atomics_are_followed()
+    ensures updates { (setting : MachineSetting) (t : ToldSeen) (m : MachineSeen) (f : Function) (inst : Inst) (kind : RmwOp) (at value : Placed) (align : ℕ)
+        → IsSetting setting → IsAt setting.program t f inst → inst.op ≡ Rmw kind at value align
+        → SeenRelated setting t m → IsFollowed setting t m }
+    ensures exchanges { (setting : MachineSetting) (t : ToldSeen) (m : MachineSeen) (f : Function) (inst : Inst) (at expected new : Placed) (align : ℕ)
+        → IsSetting setting → IsAt setting.program t f inst → inst.op ≡ CmpXchg at expected new align
+        → SeenRelated setting t m → IsFollowed setting t m }
+{}
+
+/// In related states the machine follows each step of the source: also births and deaths of blocks and of variables, calls and
+/// returns of functions, each library function, and starts and ends of tasks. The states are related after each step that
+/// goes on, a task that finishes leaves what all tasks share related, and each end of the run is the same end. The function
+/// does nothing when it runs.
+pub fn steps_are_followed()
+    ensures { (setting : MachineSetting) (t : ToldSeen) (m : MachineSeen) → IsSetting setting → SeenRelated setting t m
+        → IsFollowed setting t m }
+{}
+
+/// From related worlds the machine follows the run of the source with its story, under the same turn words, input and bound on
+/// steps: the same task makes each step, and prints the same bytes; the worlds are related after each step that goes on; and
+/// the run ends in the same step, in the same way, with a report exactly if the tag rule refuses the violation. Of a run that
+/// leaves the profile nothing is said, nor of one past a violation that passes. The function does nothing when it runs.
+pub fn runs_are_followed()
+    ensures steps { (setting : MachineSetting) (turns : ℕ → ℕ) (t : ToldWorld) (m : MachineWorld)
+        → IsSetting setting → WorldRelated setting t m
+        → FollowsWorldStep setting (told_world_step (story_setting setting) setting.input turns t)
+        (world_step (step_in setting) [] turns m) }
+    ensures runs { (setting : MachineSetting) (turns : ℕ → ℕ) (bound : ℕ) (t : ToldWorld) (m : MachineWorld)
+        → IsSetting setting → WorldRelated setting t m
+        → FollowsRun setting (told_run_from (story_setting setting) setting.input turns bound t)
+        (run_from (step_in setting) [] turns bound m) }
+{}
+
+/// If what all tasks share before `main` is entered is related, the machine follows the start and the whole run. It is so for a
+/// module without globals. The function does nothing when it runs.
+pub fn whole_runs_are_followed()
+    ensures starts { (setting : MachineSetting) → IsSetting setting
+        → SharedRelated setting (told_at_start setting) (shared_at_start setting)
+        → FollowsWorldStep setting (told_start (story_setting setting)) (machine_start setting) }
+    ensures runs { (setting : MachineSetting) (turns : ℕ → ℕ) (bound : ℕ) → IsSetting setting
+        → SharedRelated setting (told_at_start setting) (shared_at_start setting)
+        → FollowsRun setting (told_run (story_setting setting) setting.input turns bound) (machine_run setting turns bound) }
+    ensures without_globals { (setting : MachineSetting) → IsSetting setting → setting.program.globals ≡ []
+        → SharedRelated setting (told_at_start setting) (shared_at_start setting) }
 {}
