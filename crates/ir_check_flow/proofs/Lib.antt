@@ -16,3 +16,5 @@ pub mod PredecessorLists
 pub mod BadPhisFound
 pub mod BlocksOfPhis
 pub mod AmongAll
+pub mod LimitLists
+pub mod CanBeRun

@@ -1,8 +1,10 @@
 pub mod Answering
 pub mod Check
+pub mod Checked
 pub mod First
 pub mod Flow
 pub mod Homes
+pub mod Limits
 pub mod Phis
 pub mod Questions
 pub mod Spreading

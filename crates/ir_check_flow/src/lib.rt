@@ -1,13 +1,17 @@
 //! The flow of values in a module whose names are resolved: each use of a register has a definition on every path to it, and
-//! phis have the entries that they need. Its main call is `check_flow`; the layers above rely on it that no use is reached
-//! without a definition.
+//! phis have the entries that they need; and then the limits on what a module has. Its main call is `check`, which keeps the
+//! module as a `Checked`; the layers above rely on it that a checked module has all that a run needs.
 #![tactic(auto)]
 
 mod answering;
 mod bad_phis;
-mod check;
+mod checked_module;
+mod flow;
 mod home;
 mod homes;
+mod laws;
+mod limits;
+mod numbers;
 mod phis;
 mod predecessors;
 mod question;
@@ -17,4 +21,7 @@ mod tables;
 mod uses;
 mod ways;
 
-pub use check::check_flow;
+pub use checked_module::{Checked, check};
+pub use flow::check_flow;
+pub use laws::accepted_modules_can_be_run;
+pub use numbers::{MOST_BLOCKS, MOST_FUNCTIONS, MOST_INSTRUCTIONS, MOST_NODES};

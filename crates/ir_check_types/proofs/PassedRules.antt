@@ -33,17 +33,17 @@ use Rattle.ir_check_types.specs.Passed.{InstructionsCanBeRun}
 
 -- ---- no fault among several
 
-none_first : (a b : Option Refusal) → earlier a b ≡ None → a ≡ None
+pub none_first : (a b : Option Refusal) → earlier a b ≡ None → a ≡ None
 none_first None b e = refl
 none_first (Some a) None e = cc
 none_first (Some a) (Some b) e = cc
 
-none_second : (a b : Option Refusal) → earlier a b ≡ None → b ≡ None
+pub none_second : (a b : Option Refusal) → earlier a b ≡ None → b ≡ None
 none_second None b e = e
 none_second (Some a) None e = cc
 none_second (Some a) (Some b) e = cc
 
-holds : (b : Bool) (fault : Fault) (place : Place) → unless b fault place ≡ None → b ≡ true
+pub holds : (b : Bool) (fault : Fault) (place : Place) → unless b fault place ≡ None → b ≡ true
 holds true fault place e = refl
 holds false fault place e = cc
 
@@ -58,17 +58,17 @@ none_from fault so_far [] e k d within = absurd (omega arith)
 none_from fault so_far (x ∷ things) e zero d within = none_second so_far (fault x) (none_so_far fault (earlier so_far (fault x)) things e)
 none_from fault so_far (x ∷ things) e (suc k) d within = none_from fault (earlier so_far (fault x)) things e k d (omega arith)
 
-none_among : {A : Type 0} (fault : A → Option Refusal) (things : List A) → first_among fault things ≡ None → All (λ (x : A). fault x ≡ None) things
+pub none_among : {A : Type 0} (fault : A → Option Refusal) (things : List A) → first_among fault things ≡ None → All (λ (x : A). fault x ≡ None) things
 none_among fault things e = none_from fault None things e
 
-all_at : {A : Type 0} (P : A → Type 0) (xs : List A) (n : ℕ) (x : A) → All P xs → slice_get xs n ≡ Some x → P x
+pub all_at : {A : Type 0} (P : A → Type 0) (xs : List A) (n : ℕ) (x : A) → All P xs → slice_get xs n ≡ Some x → P x
 all_at P [] n x all e = cc
 all_at P (y ∷ xs) zero x all e = let same : y ≡ x = cc in subst P same (all 0 y (omega arith))
 all_at P (y ∷ xs) (suc n) x all e = all_at P xs n x (λ k d h. all (suc k) d (omega arith)) e
 
 -- ---- instructions
 
-both : (a b : Bool) → (a && b) ≡ true → (a ≡ true) × (b ≡ true)
+pub both : (a b : Bool) → (a && b) ≡ true → (a ≡ true) × (b ≡ true)
 both true b e = (refl, e)
 both false b e = cc
 
@@ -214,7 +214,7 @@ runnable m f place (op.Switch on other cases) declared h e = tt
 runnable m f place (op.Ret value) declared h e = tt
 runnable m f place op.Unreachable declared h e = tt
 
-get_at : {A : Type 0} (xs : List A) (n : ℕ) (d : A) → n < length xs → slice_get xs n ≡ Some (get_or xs n d)
+pub get_at : {A : Type 0} (xs : List A) (n : ℕ) (d : A) → n < length xs → slice_get xs n ≡ Some (get_or xs n d)
 get_at [] n d h = absurd (omega arith)
 get_at (x ∷ xs) zero d h = refl
 get_at (x ∷ xs) (suc n) d h = get_at xs n d (omega arith)

@@ -30,12 +30,12 @@ is_same Ptr Ptr = true
 is_same (Pair width) (Pair other) = width == other
 is_same type other = false
 
--- an operand is of its spelled type: a register has it, or a constant is one of its values
+-- an operand is of its spelled type: a register has it, or a constant is one of its values, which an address is only of a pointer's
 abbrev pub has_its_type : Module → Function → Placed → Operand → Bool
 has_its_type m f placed (Reg r) = is_same (type_of m (slice_index f.regs r)) (type_of m placed.ty)
 has_its_type m f placed (Literal n) = placed.fits
 has_its_type m f placed Null = placed.fits
-has_its_type m f placed (Global global off) = placed.fits
+has_its_type m f placed (Global global off) = placed.fits && is_same (type_of m placed.ty) Ptr
 
 abbrev pub is_typed : Module → Function → Placed → Bool
 is_typed m f placed = has_its_type m f placed placed.operand

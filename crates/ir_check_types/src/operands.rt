@@ -63,6 +63,7 @@ pub(crate) fn is_typed(m: &Module, f: &Function, placed: &Placed) -> bool
 {
     match placed.operand {
         Operand::Reg(r) => is_same(register_type(m, f, r), type_of(m, placed.ty)),
+        Operand::Global { .. } => placed.fits && is_same(type_of(m, placed.ty), IrType::Ptr),
         _ => placed.fits,
     }
 }

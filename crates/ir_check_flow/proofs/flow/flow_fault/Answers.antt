@@ -4,7 +4,7 @@ use Rattle.ir_check_types.specs.Order.{earlier}
 use Rattle.ir_check_flow.specs.Check.{IsAmong, IsFlowFaultOf}
 use Rattle.ir_check_flow.specs.First.{IsFirstOf}
 use Rattle.ir_check_flow.proofs.AmongAll.{next_thing, all_things}
-use Rattle.ir_check_flow.proofs.check.flow_fault.Goals as goal
+use Rattle.ir_check_flow.proofs.flow.flow_fault.Goals as goal
 
 pub loop-f-preserved : goal.loop-f-preserved
 loop-f-preserved c =

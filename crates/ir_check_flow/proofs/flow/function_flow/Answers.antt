@@ -1,7 +1,7 @@
 use Rattle.ir_check_flow.specs.Flow.{IsUndefinedUse}
 use Rattle.ir_check_flow.specs.Phis.{IsBadPhi}
 use Rattle.ir_check_flow.proofs.FirstOne.{first_of_both}
-use Rattle.ir_check_flow.proofs.check.function_flow.Goals as goal
+use Rattle.ir_check_flow.proofs.flow.function_flow.Goals as goal
 
 pub returns : goal.returns
 returns c =
