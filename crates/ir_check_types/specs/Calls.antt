@@ -86,9 +86,14 @@ start_fault m d args None = third_fault args
 start_fault m d args (Some start) =
     unless (is_same (type_of m start.ty) (type_of m (slice_index d.params 2)) && can_start m (slice_get m.functions start.func)) BadType start.place
 
+-- a function that a task starts with is an argument of `pthread_create` alone
+abbrev pub no_start_fault : Option StartArg → Option Refusal
+no_start_fault None = None
+no_start_fault (Some start) = unless false BadType start.place
+
 abbrev pub task_fault : Module → Lib → Declare → List Placed → Option StartArg → Option Refusal
 task_fault m PthreadCreate d args start = start_fault m d args start
-task_fault m other d args start = None
+task_fault m other d args start = no_start_fault start
 
 -- the arguments that are listed: all but the start function
 abbrev pub listed_fault : Module → Function → Declare → List Placed → Option StartArg → Option Refusal

@@ -1,5 +1,5 @@
 ghost use Rattle.std.specs.Prelude.{◌≡◌, ◌+◌, slice_get, take, drop};
-ghost use Rattle.ir_check_types.specs.Calls.{argument_fault, arguments_fault, result_type_fault, count_of_arguments_fault, parameter_types, callee_fault, call_fault, is_null, second_fault, null_fault, can_start, third_fault, start_fault, task_fault, listed_fault, started, declared_fault, outside_call_fault};
+ghost use Rattle.ir_check_types.specs.Calls.{argument_fault, arguments_fault, result_type_fault, count_of_arguments_fault, parameter_types, callee_fault, call_fault, is_null, second_fault, null_fault, can_start, third_fault, start_fault, no_start_fault, task_fault, listed_fault, started, declared_fault, outside_call_fault};
 
 use crate::operands::{is_same, number_fault, type_of, typed_fault};
 use crate::order::{earlier, unless};
@@ -164,12 +164,22 @@ fn start_fault(
     }
 }
 
+/// A function that a task starts with is an argument of `pthread_create` alone.
+fn no_start_fault(start: &Option<StartArg>) -> Option<Refusal>
+    ensures { result ≡ no_start_fault start.now }
+{
+    match start {
+        None => None,
+        Some(start) => unless(false, Fault::BadType, start.place),
+    }
+}
+
 fn task_fault(m: &Module, d: &Declare, args: &[Placed], start: &Option<StartArg>) -> Option<Refusal>
     ensures { result ≡ task_fault m.now d.now.lib d.now args.now start.now }
 {
     match d.lib {
         Lib::PthreadCreate => start_fault(m, d, args, start),
-        _ => None,
+        _ => no_start_fault(start),
     }
 }
 

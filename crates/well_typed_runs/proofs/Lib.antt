@@ -1,0 +1,16 @@
+pub mod Values
+pub mod Accesses
+pub mod Blocks
+pub mod Registers
+pub mod KnownBirths
+pub mod Settings
+pub mod GoingOn
+pub mod ValueSteps
+pub mod Bytes
+pub mod MemorySteps
+pub mod AddressSteps
+pub mod Edges
+pub mod BranchSteps
+pub mod CallSteps
+pub mod ReturnSteps
+pub mod LibraryArguments

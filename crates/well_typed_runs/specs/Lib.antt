@@ -1,0 +1,3 @@
+pub mod GoodFrames
+pub mod GoodWorlds
+pub mod KnownValues
