@@ -238,11 +238,11 @@ module _ (m : Module) (s : SourceSeen) (accepted : IsAccepted m) (good : IsGoodS
   abbrev is_good : SourceOutcome → Type 0
   is_good outcome = IsGoodOutcome m s outcome
 
-  by_test : (test : Bool) (a b : SourceOutcome) → IsGoodOutcome m s a → IsGoodOutcome m s b → IsGoodOutcome m s (if test then a else b)
+  pub by_test : (test : Bool) (a b : SourceOutcome) → IsGoodOutcome m s a → IsGoodOutcome m s b → IsGoodOutcome m s (if test then a else b)
   by_test true a b h k = h
   by_test false a b h k = k
 
-  counted_good : (f : Function) (arguments : List Value) (next : SourceOutcome) → length arguments ≡ f.params → IsGoodOutcome m s next → IsGoodOutcome m s (on_arguments f arguments next)
+  pub counted_good : (f : Function) (arguments : List Value) (next : SourceOutcome) → length arguments ≡ f.params → IsGoodOutcome m s next → IsGoodOutcome m s (on_arguments f arguments next)
   unfolding on_arguments
   counted_good f arguments next count h =
       let test : (length arguments == f.params) ≡ true = grind (arith, nat_tests) in

@@ -14,3 +14,7 @@ pub mod BranchSteps
 pub mod CallSteps
 pub mod ReturnSteps
 pub mod LibraryArguments
+pub mod Strings
+pub mod LibrarySteps
+pub mod CreateSteps
+pub mod EachStep
