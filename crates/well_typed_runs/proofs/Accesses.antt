@@ -1,5 +1,5 @@
 -- The access rule answers every access through a pointer to what was born, and steps go on from it.
-use Rattle.std.proofs.Common.{◌≡◌, ◌≢◌, ℕ, zero, suc, ◌+◌, ◌%◌, ◌^◌, ◌<◌, ◌≤◌, List, [], ◌∷◌, Option, Some, None, Bool, true, false, cond, nat_le, ◌==◌, refl, sym, ◌∙◌, ap, subst, arith}
+use Rattle.std.proofs.Common.{◌≡◌, ◌≢◌, ℕ, zero, suc, ◌+◌, ◌%◌, List, Option, Some, None, Bool, true, false, cond, nat_le, ◌==◌, refl, sym, subst}
 use Rattle.std.specs.Prelude.{Result, Ok, Err}
 use Rattle.hw_base.specs.declared.accesses.Access.{Access}
 use Rattle.hw_base.specs.declared.accesses.Access.TheVariants.{Read, Write, Free}
@@ -7,8 +7,8 @@ use Rattle.hw_base.specs.declared.accesses.Reason.{Reason}
 use Rattle.hw_base.specs.declared.pointers.Base.{Base}
 use Rattle.hw_base.specs.declared.pointers.Base.TheVariants.{Null, Object}
 use Rattle.ir_core.specs.declared.ir_module.Module.{Module}
-use Rattle.ir_meaning.specs.AccessRule.{AccessAnswer, Fine, Violates, WritesConstant, IsOutside, NoAnswer, Accessed, AccessBase, OnNull, OnObject, OnNothing, access_rule, access_answer, accessed, accessed_in, base_answer, object_answer, living_answer, inside_answer, dead_answer, bytes_answer, free_answer, start_free, block_free}
-use Rattle.ir_meaning.specs.Births.{Birth, Region, Globals, Stack, Heap, SourceObject, get_object, region_of, is_living}
+use Rattle.ir_meaning.specs.AccessRule.{AccessAnswer, Fine, Violates, WritesConstant, IsOutside, NoAnswer, Accessed, AccessBase, OnNull, OnObject, OnNothing, access_rule, access_answer, accessed, accessed_in, base_answer, object_answer, living_answer, inside_answer, dead_answer, bytes_answer, free_answer, start_free}
+use Rattle.ir_meaning.specs.Births.{Birth, Region, Globals, Stack, Heap, SourceObject, region_of}
 use Rattle.ir_meaning.specs.State.{SourceSeen, SourceOutcome}
 use Rattle.ir_meaning.specs.StepEnds.{on_answer, on_access, on_read, on_integer}
 use Rattle.ir_meaning.specs.Values.{Value}

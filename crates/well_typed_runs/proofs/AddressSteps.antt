@@ -1,6 +1,5 @@
 -- Steps that make pointers aren't stuck.
-use Rattle.std.proofs.Common.{◌≡◌, ℕ, zero, suc, ◌+◌, ◌*◌, ◌<◌, List, [], ◌∷◌, length, slice_get, Option, Some, None, Bool, true, false, ◌&&◌, refl, sym, ◌∙◌, ap, subst, arith}
-use Rattle.std.specs.List.{All}
+use Rattle.std.proofs.Common.{◌≡◌, ℕ, suc, ◌+◌, ◌<◌, List, [], ◌∷◌, length, slice_get, Option, Some, None, refl, ap, arith}
 use Rattle.std.specs.Prelude.{option_map}
 use Rattle.ir_core.specs.declared.faults.Fault.TheVariants.{BadType}
 use Rattle.ir_core.specs.declared.ir_module.Function.{Function}
@@ -11,20 +10,20 @@ use Rattle.ir_core.specs.declared.operations.Op.{Op}
 use Rattle.ir_core.specs.declared.operations.Op.TheVariants as op
 use Rattle.ir_core.specs.declared.refusals.Place.{Place}
 use Rattle.ir_core.specs.declared.types.IrType.{IrType}
-use Rattle.ir_core.specs.declared.types.IrType.TheVariants.{Void, Int, Ptr, Array, Struct, Opaque, Pair}
-use Rattle.ir_core.specs.IndexSteps.{AddressStep, Scaled, Offset, scaled_step, step_before, inner_steps, index_steps}
+use Rattle.ir_core.specs.declared.types.IrType.TheVariants.{Int, Ptr, Array, Struct}
+use Rattle.ir_core.specs.IndexSteps.{AddressStep, scaled_step, step_before, inner_steps, index_steps}
 use Rattle.ir_core.specs.NumberTypes.{type_of, bits_of, field_type, constant_number}
 use Rattle.ir_core.specs.Operations.{is_terminator, given_type}
 use Rattle.ir_core.specs.ResolvedBodies.{IsResolvedOp, IsResolvedPlaced}
-use Rattle.ir_check_types.specs.Order.{earlier, unless}
+use Rattle.ir_check_types.specs.Order.{unless}
 use Rattle.ir_check_types.specs.Operands.{integer_fault, typed_fault}
-use Rattle.ir_check_types.specs.Instructions.{sized_fault, is_step, part_type, step_fault, steps_fault, indices_fault, address_fault}
+use Rattle.ir_check_types.specs.Instructions.{sized_fault, is_step, step_fault, steps_fault, indices_fault}
 use Rattle.ir_check_types.specs.Rules.{operation_fault}
 use Rattle.ir_check_types.proofs.PassedRules.{none_first, none_second, holds}
 use Rattle.ir_meaning.specs.AddressSteps.{alloca_step, gep_step, scaled_by, step_bytes, steps_bytes, added}
 use Rattle.ir_meaning.specs.Births.{Birth}
 use Rattle.ir_meaning.specs.InstructionStep.{value_of}
-use Rattle.ir_meaning.specs.Operands.{operand_value, with_named}
+use Rattle.ir_meaning.specs.Operands.{operand_value}
 use Rattle.ir_meaning.specs.State.{SourceSeen, SourceOutcome, nothing_happened}
 use Rattle.ir_meaning.specs.Values.{Value, Integer, Address, IntegerAndBit}
 use Rattle.hw_base.specs.declared.pointers.Base.TheVariants.{Object}
@@ -126,6 +125,7 @@ module _ (m : Module) (s : SourceSeen) (good : IsGoodSeen m s) (setting : IsSett
       none-below : (xs : List ℕ) (k : ℕ) → k < length xs → xs ≡ [] → ⊥
       none-below [] k h e = omega arith
       none-below (x ∷ xs) k h e = absurd cc
+
       by_birth : (birth : Option ℕ) → s.frame.birth ≡ birth → HasVariables s.shared.births good.frame.f.allocas birth → IsGoodOutcome m s (alloca_step s here.result index)
       by_birth None e h = absurd (none-below good.frame.f.allocas index resolved.0 h)
       by_birth (Some n) e h =

@@ -1,5 +1,5 @@
 -- Blocks of functions whose names are resolved, and the instructions in them.
-use Rattle.std.proofs.Common.{◌≡◌, ℕ, zero, suc, ◌+◌, ◌-◌, ◌<◌, ◌≤◌, List, [], ◌∷◌, length, slice_get, get_or, Option, Some, None, Bool, true, false, ◌==◌, nat_lt, refl, sym, ◌∙◌, ap, subst, arith}
+use Rattle.std.proofs.Common.{◌≡◌, ℕ, zero, suc, ◌+◌, ◌<◌, ◌≤◌, List, [], ◌∷◌, length, slice_get, get_or, Some, Bool, true, false, ◌==◌, nat_lt, refl, sym, ◌∙◌, subst, arith}
 use Rattle.std.proofs.lemmas.Bool.Decides.{nat_tests}
 use Rattle.std.specs.List.{All}
 use Rattle.ir_core.specs.declared.ir_module.Block.{Block}
@@ -10,7 +10,6 @@ use Rattle.ir_core.specs.Operations.{is_phi, is_terminator}
 use Rattle.ir_core.specs.ResolvedBodies.{AreBlocksFrom, IsBlockAt, IsResolvedFunction}
 use Rattle.ir_core.specs.Runnable.{HasPhisFirst}
 use Rattle.ir_check_flow.specs.Flow.{IsIn}
-use Rattle.ir_check_flow.specs.Ways.{ways_of, IsPath}
 use Rattle.well_typed_runs.specs.GoodFrames.{IsAt}
 
 -- ---- lists

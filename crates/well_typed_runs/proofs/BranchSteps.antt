@@ -1,5 +1,5 @@
 -- Branches aren't stuck, and lead to a block where the frame is as it should be.
-use Rattle.std.proofs.Common.{◌≡◌, ℕ, zero, suc, ◌+◌, ◌-◌, ◌<◌, ◌≤◌, List, [], ◌∷◌, length, map, take, drop, get_or, slice_get, slice_index_or, Option, Some, None, Bool, true, false, ◌==◌, if◌then◌else◌, refl, sym, ◌∙◌, ap, subst, arith}
+use Rattle.std.proofs.Common.{◌≡◌, ℕ, zero, suc, ◌+◌, ◌-◌, ◌<◌, List, [], ◌∷◌, map, take, drop, get_or, slice_get, Some, None, Bool, true, false, ◌==◌, if◌then◌else◌, refl, sym, ◌∙◌, ap, subst, arith}
 use Rattle.std.specs.List.{All, Contains}
 use Rattle.hw_base.specs.Bits.{is_set}
 use Rattle.ir_core.specs.declared.ir_module.Block.{Block}
@@ -13,24 +13,22 @@ use Rattle.ir_core.specs.declared.operations.Op.TheVariants as op
 use Rattle.ir_core.specs.declared.types.IrType.TheVariants.{Int}
 use Rattle.ir_core.specs.Blocks.{block_holding, phis_of, start_of}
 use Rattle.ir_core.specs.NumberTypes.{constant_number}
-use Rattle.ir_core.specs.Operations.{is_phi, is_terminator, is_value_type, given_type}
+use Rattle.ir_core.specs.Operations.{is_terminator, is_value_type, given_type}
 use Rattle.ir_core.specs.ResolvedBodies.{IsResolvedCase, IsResolvedOp, IsTarget}
 use Rattle.ir_core.specs.Runnable.{HasPhisFirst}
-use Rattle.ir_check_types.specs.Operands.{integer_fault, typed_fault}
-use Rattle.ir_check_types.specs.Instructions.{cases_fault}
-use Rattle.ir_check_types.specs.Rules.{name_fault, instruction_fault, operation_fault}
+use Rattle.ir_check_types.specs.Operands.{integer_fault}
+use Rattle.ir_check_types.specs.Rules.{name_fault, operation_fault}
 use Rattle.ir_check_types.proofs.PassedRules.{none_first, none_second}
-use Rattle.ir_check_flow.specs.Flow.{IsIn, NoneDefines}
+use Rattle.ir_check_flow.specs.Flow.{IsIn}
 use Rattle.ir_check_flow.specs.Ways.{targets_of, onward}
 use Rattle.ir_check_flow.proofs.HomesFound.{taken_from, dropped_from}
-use Rattle.ir_meaning.specs.BranchSteps.{phi_values, with_results, moved_to, goes_to, br_step, br_if_step, switch_target, switch_step}
+use Rattle.ir_meaning.specs.BranchSteps.{phi_values, with_results, goes_to, br_step, br_if_step, switch_target, switch_step}
 use Rattle.ir_meaning.specs.InstructionStep.{value_of, width_at}
-use Rattle.ir_meaning.specs.State.{SourceSeen, SourceOutcome, nothing_happened}
-use Rattle.ir_meaning.specs.Values.{Value}
-use Rattle.well_typed_runs.specs.GoodFrames.{IsAt, IsUnset, AreGoodRegisters, IsGoodFrame}
+use Rattle.ir_meaning.specs.State.{SourceSeen, SourceOutcome}
+use Rattle.well_typed_runs.specs.GoodFrames.{IsAt, IsUnset, AreGoodRegisters}
 use Rattle.well_typed_runs.specs.GoodWorlds.{IsAccepted, IsGoodSeen, IsGoodOutcome}
 use Rattle.well_typed_runs.proofs.Blocks.{all_at, block_at, get_at}
-use Rattle.well_typed_runs.proofs.Edges.{holding_here, leads_here, not_defined, HasPhiValue, phi_has, PhisFit, HasPhiValues, all_phis, results-count, results-typed, results-known, results-none}
+use Rattle.well_typed_runs.proofs.Edges.{holding_here, leads_here, not_defined, HasPhiValue, phi_has, HasPhiValues, all_phis, results-count, results-typed, results-known, results-none}
 use Rattle.well_typed_runs.proofs.GoingOn as on
 use Rattle.well_typed_runs.proofs.Settings.{IsSetting, no_result, instruction_typed}
 use Rattle.well_typed_runs.proofs.Values.{integer_good, named_good}
@@ -97,9 +95,9 @@ module _ (m : Module) (s : SourceSeen) (accepted : IsAccepted m) (good : IsGoodS
         later = unset.later;
         none = (λ d. not_defined m f s.frame.inst r setting.whole at end none unset d, unset.none);
         not_before = λ j x from to found gives.
-        let number : block.first + (j - block.first) ≡ j = omega arith in
-        let low : j - block.first < block.phis = omega arith in
-        others (j - block.first) x (phi_there (j - block.first) block x low (ap (λ (k : ℕ). slice_get f.insts k) number ∙ found)) gives;
+            let number : block.first + (j - block.first) ≡ j = omega arith in
+            let low : j - block.first < block.phis = omega arith in
+            others (j - block.first) x (phi_there (j - block.first) block x low (ap (λ (k : ℕ). slice_get f.insts k) number ∙ found)) gives;
       }
     where
       taken-get : {A : Type 0} (xs : List A) (n k : ℕ) (x : A) → k < n → slice_get xs k ≡ Some x → slice_get (take n xs) k ≡ Some x
@@ -107,6 +105,7 @@ module _ (m : Module) (s : SourceSeen) (accepted : IsAccepted m) (good : IsGoodS
       taken-get (y ∷ xs) zero k x h e = absurd (omega arith)
       taken-get (y ∷ xs) (suc n) zero x h e = e
       taken-get (y ∷ xs) (suc n) (suc k) x h e = taken-get xs n k x (omega arith) e
+
       phi_there : (k : ℕ) (block : Block) (x : Inst) → k < block.phis → slice_get f.insts (block.first + k) ≡ Some x → slice_get (phis_of f.insts block) k ≡ Some x
       phi_there k block x low found = taken-get (drop block.first f.insts) block.phis k x low (dropped_from f.insts block.first k ∙ found)
 
@@ -121,8 +120,8 @@ module _ (m : Module) (s : SourceSeen) (accepted : IsAccepted m) (good : IsGoodS
         typed = results-typed m s.shared.births f s.frame.registers (phis_of f.insts block) has.values has.fit good.frame.registers.typed;
         known = results-known m s.shared.births f s.frame.registers (phis_of f.insts block) has.values has.fit good.frame.registers.known;
         unset = λ r e.
-        let two = results-none m s.shared.births f s.frame.registers (phis_of f.insts block) has.values r has.fit e in
-        unset_at target r block end none there (good.frame.registers.unset r two.1) two.0;
+            let two = results-none m s.shared.births f s.frame.registers (phis_of f.insts block) has.values r has.fit e in
+            unset_at target r block end none there (good.frame.registers.unset r two.1) two.0;
       }
 
   -- ---- edges
@@ -142,14 +141,16 @@ module _ (m : Module) (s : SourceSeen) (accepted : IsAccepted m) (good : IsGoodS
       (record {
         births = good.births;
         grow = on.births-same m s good setting;
-        frames =
-            (record {
-              f = f;
-              there = good.frame.there;
-              at = start_at target block end contains there;
-              registers = registers_at target block end none contains there has;
-              variables = good.frame.variables;
-            }, good.callers);
+        frames = (
+          record {
+            f = f;
+            there = good.frame.there;
+            at = start_at target block end contains there;
+            registers = registers_at target block end none contains there has;
+            variables = good.frame.variables;
+          },
+          good.callers,
+        );
       }))
 
   -- ---- branches

@@ -1,5 +1,5 @@
 -- Bytes that are read and written lead to what was born.
-use Rattle.std.proofs.Common.{◌≡◌, ℕ, zero, suc, ◌+◌, List, [], ◌∷◌, ◌++◌, length, map, take, drop, slice_get, Option, Some, None, option_map, Bool, true, false, if◌then◌else◌, refl, sym, ◌∙◌, ap, subst}
+use Rattle.std.proofs.Common.{◌≡◌, ℕ, zero, suc, ◌+◌, List, [], ◌∷◌, map, take, drop, Option, Some, None, option_map, Bool, true, false, if◌then◌else◌, refl, sym, ◌∙◌, subst}
 use Rattle.hw_base.specs.Bytes.{le_bytes, le_number}
 use Rattle.hw_base.specs.declared.pointers.Base.{Base}
 use Rattle.hw_base.specs.declared.pointers.Base.TheVariants.{Null, Object}
@@ -8,7 +8,7 @@ use Rattle.ir_core.specs.declared.ir_module.Module.{Module}
 use Rattle.ir_core.specs.declared.types.IrType.TheVariants.{Ptr}
 use Rattle.ir_check_flow.proofs.HomesFound.{taken_from, dropped_from}
 use Rattle.ir_meaning.specs.Births.{Birth, SourceObject, get_object, bytes_in, bytes_at}
-use Rattle.ir_meaning.specs.Encoding.{number_bytes, pointer_bytes, pointer_pieces, data_numbers, are_pieces, pointer_from}
+use Rattle.ir_meaning.specs.Encoding.{number_bytes, pointer_bytes, data_numbers, are_pieces, pointer_from}
 use Rattle.ir_meaning.specs.Values.{Value, Address, SourceByte, Data, Piece}
 use Rattle.well_typed_runs.specs.KnownValues.{IsKnownBase, IsKnownByte, AreKnownBytes, AreGoodBirths, HasValue}
 

@@ -1,8 +1,7 @@
 -- Calls of defined functions and returns aren't stuck.
-use Rattle.std.proofs.Common.{◌≡◌, ◌⊎◌, inl, inr, ℕ, zero, suc, ◌+◌, ◌-◌, ◌<◌, ◌≤◌, List, [], ◌∷◌, ◌++◌, length, map, replicate, take, drop, get_or, slice_get, slice_index, Option, Some, None, option_map, Bool, true, false, nat_le, ◌==◌, ◌&&◌, if◌then◌else◌, refl, sym, ◌∙◌, ap, subst, arith}
+use Rattle.std.proofs.Common.{◌≡◌, ℕ, zero, suc, ◌+◌, ◌-◌, ◌<◌, ◌≤◌, List, [], ◌∷◌, ◌++◌, length, map, replicate, take, get_or, slice_get, slice_index, Option, Some, None, Bool, true, false, nat_le, ◌==◌, if◌then◌else◌, refl, sym, ◌∙◌, ap, subst, arith}
 use Rattle.std.proofs.lemmas.Bool.Decides.{nat_tests}
 use Rattle.std.proofs.lemmas.List.{length-append, length-map, length-replicate}
-use Rattle.std.specs.List.{All}
 use Rattle.std.specs.Prelude.{option_and_then}
 use Rattle.hw_base.specs.declared.numbers.TheConstants.{MOST_FRAMES}
 use Rattle.hw_base.specs.declared.pointers.Site.{Site}
@@ -15,33 +14,28 @@ use Rattle.ir_core.specs.declared.ir_module.Module.{Module}
 use Rattle.ir_core.specs.declared.operands.Placed.{Placed}
 use Rattle.ir_core.specs.declared.operations.Op.{Op}
 use Rattle.ir_core.specs.declared.operations.Op.TheVariants as op
-use Rattle.ir_core.specs.declared.refusals.Refusal.{Refusal}
-use Rattle.ir_core.specs.declared.types.IrType.{IrType}
-use Rattle.ir_core.specs.declared.types.IrType.TheVariants.{Void, Int, Ptr, Array, Struct, Opaque, Pair}
 use Rattle.ir_core.specs.NumberTypes.{type_of}
-use Rattle.ir_core.specs.Operations.{is_phi, is_terminator, is_value_type, is_number_type, given_type}
-use Rattle.ir_core.specs.ResolvedBodies.{IsBlockAt, AreBlocksFrom, IsResolvedFunction, IsResolvedOp, IsResolvedPlaced}
+use Rattle.ir_core.specs.Operations.{is_phi, is_number_type}
+use Rattle.ir_core.specs.ResolvedBodies.{AreBlocksFrom, IsResolvedOp, IsResolvedPlaced}
 use Rattle.ir_core.specs.Runnable.{IsRunnableOp}
-use Rattle.ir_check_types.specs.Order.{earlier, unless}
-use Rattle.ir_check_types.specs.Operands.{is_same, number_fault, typed_fault}
+use Rattle.ir_check_types.specs.Operands.{typed_fault}
 use Rattle.ir_check_types.specs.Calls.{argument_fault, arguments_fault, result_type_fault, count_of_arguments_fault, parameter_types, callee_fault}
 use Rattle.ir_check_types.specs.Rules.{operation_fault}
 use Rattle.ir_check_types.proofs.PassedRules.{none_first, none_second, holds}
 use Rattle.ir_check_flow.specs.Flow.{IsIn, NoneDefines}
-use Rattle.ir_check_flow.specs.Phis.{IsBadPhi, bad_phi}
-use Rattle.ir_check_flow.specs.Ways.{IsPath, entry}
-use Rattle.ir_check_flow.proofs.HomesFound.{taken_from}
-use Rattle.ir_meaning.specs.Births.{Birth, Stack, Globals, fresh_birth, fresh_object, get_object, object_in, SourceObject}
+use Rattle.ir_check_flow.specs.Phis.{bad_phi}
+use Rattle.ir_check_flow.specs.Ways.{entry}
+use Rattle.ir_meaning.specs.Births.{Birth, Stack, fresh_birth, fresh_object, object_in, SourceObject}
 use Rattle.ir_meaning.specs.BirthChanges.{OnlyGrow, bore, same}
-use Rattle.ir_meaning.specs.CallSteps.{Entry, entry_of, entry_registers, entry_frame, on_arguments, call_step}
+use Rattle.ir_meaning.specs.CallSteps.{Entry, entry_of, entry_frame, on_arguments, call_step}
 use Rattle.ir_meaning.specs.InstructionStep.{value_of, values_of}
-use Rattle.ir_meaning.specs.Operands.{operand_value, operand_values, single, single_before, all_single}
-use Rattle.ir_meaning.specs.State.{SourceFrame, SourceSeen, SourceOutcome}
+use Rattle.ir_meaning.specs.Operands.{operand_value, single, single_before, all_single}
+use Rattle.ir_meaning.specs.State.{SourceSeen, SourceOutcome}
 use Rattle.ir_meaning.specs.StepEnds.{chain_of}
 use Rattle.ir_meaning.specs.Values.{Value}
 use Rattle.ir_meaning.proofs.BirthChangeLaws.{change-only_grows}
-use Rattle.well_typed_runs.specs.KnownValues.{IsOfType, IsKnownValue, IsBorn, AreGoodBirths, HasValue}
-use Rattle.well_typed_runs.specs.GoodFrames.{IsAt, IsUnset, AreGoodRegisters, HasVariables, IsGoodFrame, IsGoodCaller, AreGoodCallers, Calls}
+use Rattle.well_typed_runs.specs.KnownValues.{IsOfType, IsKnownValue, AreGoodBirths, HasValue}
+use Rattle.well_typed_runs.specs.GoodFrames.{IsAt, HasVariables, IsGoodFrame, Calls}
 use Rattle.well_typed_runs.specs.GoodWorlds.{IsAccepted, IsGoodSeen, IsGoodOutcome}
 use Rattle.well_typed_runs.proofs.Blocks.{all_at, block_at, get_at, get_below}
 use Rattle.well_typed_runs.proofs.KnownBirths.{births_born, value-grows}
@@ -125,12 +119,12 @@ entry_good m births f func arguments birth chain accepted there count fit variab
         typed = λ r v e. (fit r v (entry_value arguments (length f.regs - length arguments) r v e)).0;
         known = λ r v e. (fit r v (entry_value arguments (length f.regs - length arguments) r v e)).1;
         unset = λ r e.
-        let past = entry_none arguments (length f.regs - length arguments) r e in
-        record {
-          later = omega arith;
-          none = subst (λ (before : List ℕ). NoneDefines f r before) (sym first.nothing_before) tt;
-          not_before = λ j x from to at gives. omega arith;
-        };
+            let past = entry_none arguments (length f.regs - length arguments) r e in
+            record {
+              later = omega arith;
+              none = subst (λ (before : List ℕ). NoneDefines f r before) (sym first.nothing_before) tt;
+              not_before = λ j x from to at gives. omega arith;
+            };
       };
       variables = variables;
     }
@@ -164,9 +158,12 @@ entered_good m births func task chain (size ∷ sizes) good =
     record {
       births = births_born m births (Stack func) task chain (size ∷ sizes) good;
       grow = change-only_grows births (births ++ fresh ∷ []) _ change;
-      variables = (λ k h.
-      let (x, found) = fresh-there (size ∷ sizes) k h in
-      (x, ap (λ (b : Option Birth). object_in b k) at ∙ found), (fresh, at, λ e. absurd cc));
+      variables = (
+        λ k h.
+            let (x, found) = fresh-there (size ∷ sizes) k h in
+            (x, ap (λ (b : Option Birth). object_in b k) at ∙ found),
+        (fresh, at, λ e. absurd cc),
+      );
     }
 
 -- ---- arguments
@@ -265,9 +262,11 @@ module _ (m : Module) (s : SourceSeen) (accepted : IsAccepted m) (good : IsGoodS
       let wanted : slice_get (parameter_types callee) k ≡ Some (slice_index callee.regs k) = type_index callee.regs callee.params k (omega arith) few in
       let fault : typed_fault m good.frame.f (type_of m (slice_index callee.regs k)) arg ≡ None =
       subst (λ (o : Option ℕ). argument_fault m good.frame.f o arg ≡ None) wanted (arguments_at m good.frame.f (parameter_types callee) args k arg faults there) in
-      let number = (both (is_number_type (type_of m (slice_index callee.regs k))) _ (holds _ BadType arg.place fault)).0 in
-      (number, on.typed_at m s good setting (op.Call func ty args) k arg (type_of m (slice_index callee.regs k)) is there
-      (all_at (IsResolvedPlaced m good.frame.f) args k arg resolved.2 there) fault)
+      let number = (both (is_number_type (type_of m (slice_index callee.regs k))) _ (holds _ BadType arg.place fault)).0 in (
+        number,
+        on.typed_at m s good setting (op.Call func ty args) k arg (type_of m (slice_index callee.regs k)) is there
+            (all_at (IsResolvedPlaced m good.frame.f) args k arg resolved.2 there) fault,
+      )
 
   pub call_good : (func ty : ℕ) (args : List Placed) → here.op ≡ op.Call func ty args → IsResolvedOp m good.frame.f (op.Call func ty args) → IsRunnableOp m (op.Call func ty args)
       → operation_fault m good.frame.f here.place (op.Call func ty args) ≡ None → IsGoodOutcome m s (call_step m s func (values_of m s args))
@@ -289,14 +288,17 @@ module _ (m : Module) (s : SourceSeen) (accepted : IsAccepted m) (good : IsGoodS
       (record {
         births = entered.births;
         grow = entered.grow;
-        frames =
-            (entry_good m entry.births callee func singles.values entry.birth (chain_of s) accepted there params
-            (λ k v e. let zero_more : 0 + k ≡ k = omega arith in let two = rw zero_more at (singles.each k v e) in (two.0, value-grows s.shared.births entry.births v entered.grow two.1)) entered.variables,
-            ((record {
+        frames = (
+          entry_good m entry.births callee func singles.values entry.birth (chain_of s) accepted there params
+              (λ k v e. let zero_more : 0 + k ≡ k = omega arith in let two = rw zero_more at (singles.each k v e) in (two.0, value-grows s.shared.births entry.births v entered.grow two.1)) entered.variables,
+          (
+            (record {
               frame = frame-grows m s.shared.births entry.births s.frame entered.grow good.frame;
               calls = subst (λ (x : Inst). Calls func x.op) (sym (frame-grows-inst m s.shared.births entry.births s.frame entered.grow good.frame)) (subst (λ (o : Op). Calls func o) (sym is) refl);
             }),
-            callers-grow m s.shared.births entry.births s.task s.frame.func s.callers entered.grow good.callers));
+            callers-grow m s.shared.births entry.births s.task s.frame.func s.callers entered.grow good.callers,
+          ),
+        );
       }))))
     where
       singles_of : (func ty : ℕ) (args : List Placed) (callee : Function) → here.op ≡ op.Call func ty args → IsResolvedOp m good.frame.f (op.Call func ty args)

@@ -1,5 +1,5 @@
 -- The start of a task isn't stuck, and its frame is as it should be.
-use Rattle.std.proofs.Common.{◌≡◌, ℕ, zero, suc, ◌+◌, ◌<◌, List, [], ◌∷◌, ◌++◌, length, get_or, slice_get, slice_index, Option, Some, None, Bool, true, false, nat_le, if◌then◌else◌, refl, sym, ◌∙◌, ap, subst, arith}
+use Rattle.std.proofs.Common.{◌≡◌, ℕ, zero, suc, List, [], ◌∷◌, length, get_or, slice_get, slice_index, Option, Some, None, false, nat_le, refl, sym, ◌∙◌, subst}
 use Rattle.std.specs.Prelude.{IfSome}
 use Rattle.hw_base.specs.declared.accesses.Access.TheVariants.{Write}
 use Rattle.hw_base.specs.declared.numbers.TheConstants.{MOST_TASKS, TASK_NUMBER_SIZE}
@@ -20,13 +20,13 @@ use Rattle.ir_meaning.specs.BirthChanges.{OnlyGrow, IsSameBirth, wrote}
 use Rattle.ir_meaning.specs.CallSteps.{Entry, entry_of}
 use Rattle.ir_meaning.specs.Encoding.{number_bytes}
 use Rattle.ir_meaning.specs.LibraryCalls.{on_accesses}
-use Rattle.ir_meaning.specs.Operands.{argument, with_named}
+use Rattle.ir_meaning.specs.Operands.{argument}
 use Rattle.ir_meaning.specs.State.{SourceSeen, SourceOutcome, nothing_happened, telling}
 use Rattle.ir_meaning.specs.StepEnds.{chain_of}
-use Rattle.ir_meaning.specs.TaskFunctions.{started, starts_with, create_step}
+use Rattle.ir_meaning.specs.TaskFunctions.{starts_with, create_step}
 use Rattle.ir_meaning.specs.Values.{Value, Integer}
 use Rattle.ir_meaning.proofs.BirthChangeLaws.{change-only_grows}
-use Rattle.well_typed_runs.specs.KnownValues.{HasValue, IsOfType, IsKnownValue, IsKnownBase}
+use Rattle.well_typed_runs.specs.KnownValues.{HasValue, IsOfType, IsKnownValue}
 use Rattle.well_typed_runs.specs.GoodWorlds.{IsAccepted, IsGoodSeen, IsGoodOutcome}
 use Rattle.well_typed_runs.proofs.Blocks.{get_at}
 use Rattle.well_typed_runs.proofs.Bytes.{number-known}
@@ -71,13 +71,14 @@ module _ (m : Module) (s : SourceSeen) (accepted : IsAccepted m) (good : IsGoodS
       let entered = entered_good m s.shared.births func (length s.finished) (chain_of s) f.allocas good.births in
       let later : List Birth = put_bytes entry.births base off (number_bytes TASK_NUMBER_SIZE (length s.finished)) in
       let written : OnlyGrow entry.births later =
-      change-only_grows entry.births later [] (wrote entry.births base off (number_bytes TASK_NUMBER_SIZE (length s.finished))) in
-      (on.gives_under m s good setting (record s.shared { births = later }) (Int 32) (Integer 0) (telling entry.news) plain
-      (births_written m entry.births base off (number_bytes TASK_NUMBER_SIZE (length s.finished)) entered.births (number-known entry.births TASK_NUMBER_SIZE (length s.finished)))
-      (grow_through s.shared.births entry.births later entered.grow written) given refl refl tt,
-      frame-grows m entry.births later _ written
-      (entry_good m entry.births f func (value ∷ []) entry.birth (chain_of s) accepted there (sym starts.one_parameter)
-      (one_argument entry.births f value starts typed (value-grows s.shared.births entry.births value entered.grow known)) entered.variables))
+      change-only_grows entry.births later [] (wrote entry.births base off (number_bytes TASK_NUMBER_SIZE (length s.finished))) in (
+        on.gives_under m s good setting (record s.shared { births = later }) (Int 32) (Integer 0) (telling entry.news) plain
+            (births_written m entry.births base off (number_bytes TASK_NUMBER_SIZE (length s.finished)) entered.births (number-known entry.births TASK_NUMBER_SIZE (length s.finished)))
+            (grow_through s.shared.births entry.births later entered.grow written) given refl refl tt,
+        frame-grows m entry.births later _ written
+            (entry_good m entry.births f func (value ∷ []) entry.birth (chain_of s) accepted there (sym starts.one_parameter)
+            (one_argument entry.births f value starts typed (value-grows s.shared.births entry.births value entered.grow known)) entered.variables),
+      )
 
   pub create_good : (values : List (Option Value)) (start : Option StartArg) → StartsTask m start → IfSome start (IsResolvedStart m) → HasValue s.shared.births Ptr (argument values 0)
       → HasValue s.shared.births Ptr (argument values 2) → given_type m here.op ≡ Int 32

@@ -1,8 +1,7 @@
 -- No step of an accepted module is stuck, one line a kind of instruction and a declared function.
-use Rattle.std.proofs.Common.{◌≡◌, ◌≢◌, ℕ, zero, suc, ◌+◌, ◌<◌, List, [], ◌∷◌, length, map, get_or, slice_get, Option, Some, None, Bool, true, false, ◌==◌, ◌&&◌, refl, sym, ◌∙◌, ap, subst, arith, eqb-true}
+use Rattle.std.proofs.Common.{◌≡◌, ℕ, zero, suc, ◌+◌, ◌<◌, List, [], ◌∷◌, length, slice_get, Option, Some, None, true, false, ◌==◌, refl, ◌∙◌, ap, subst, arith, eqb-true}
 use Rattle.std.proofs.lemmas.List.{length-map}
 use Rattle.hw_base.specs.declared.endings.Input.{Input}
-use Rattle.ir_core.specs.LibraryAccesses.{accesses_of}
 use Rattle.ir_core.specs.declared.faults.Fault.TheVariants.{BadType}
 use Rattle.ir_core.specs.declared.ir_module.Declare.{Declare}
 use Rattle.ir_core.specs.declared.ir_module.Function.{Function}
@@ -15,26 +14,23 @@ use Rattle.ir_core.specs.declared.operands.StartArg.{StartArg}
 use Rattle.ir_core.specs.declared.operations.Op.{Op}
 use Rattle.ir_core.specs.declared.operations.Op.TheVariants as op
 use Rattle.ir_core.specs.declared.types.IrType.{IrType}
-use Rattle.ir_core.specs.declared.types.IrType.TheVariants.{Void, Int, Ptr, Pair}
+use Rattle.ir_core.specs.declared.types.IrType.TheVariants.{Int, Ptr}
 use Rattle.ir_core.specs.NumberTypes.{type_of}
 use Rattle.ir_core.specs.Operations.{is_phi, is_terminator, is_value_type, given_type}
 use Rattle.ir_core.specs.ResolvedBodies.{IsResolvedOp}
-use Rattle.ir_core.specs.Runnable.{IsRunnableOp, StartsTask, StartsAsItIs}
-use Rattle.ir_check_types.specs.Order.{earlier, unless}
+use Rattle.ir_core.specs.Runnable.{IsRunnableOp, StartsAsItIs}
 use Rattle.ir_check_types.specs.Operands.{is_same}
-use Rattle.ir_check_types.specs.Calls.{result_type_fault, count_of_arguments_fault, null_fault, listed_fault, task_fault, no_start_fault, started, arguments_fault, declared_fault}
-use Rattle.ir_check_types.specs.Rules.{are_types, has_parameters, declare_fault, operation_fault}
-use Rattle.ir_check_types.specs.Signatures.{bits_parameters, lib_result, lib_parameters, is_lifetime}
+use Rattle.ir_check_types.specs.Calls.{result_type_fault, count_of_arguments_fault, null_fault, listed_fault, task_fault, started, declared_fault}
+use Rattle.ir_check_types.specs.Rules.{are_types, has_parameters, operation_fault}
+use Rattle.ir_check_types.specs.Signatures.{lib_result, lib_parameters, is_lifetime}
 use Rattle.ir_check_types.proofs.PassedRules.{none_first, none_second, holds}
 use Rattle.ir_meaning.specs.BranchSteps.{unreachable_step}
 use Rattle.ir_meaning.specs.InstructionStep.{values_of, operation_step, source_step}
 use Rattle.ir_meaning.specs.LibraryCalls.{nothing_step, library_step}
-use Rattle.ir_meaning.specs.Operands.{argument, operand_value, with_named}
+use Rattle.ir_meaning.specs.Operands.{argument, operand_value}
 use Rattle.ir_meaning.specs.State.{SourceSeen, SourceOutcome, nothing_happened}
-use Rattle.ir_meaning.specs.Values.{Value}
 use Rattle.well_typed_runs.specs.KnownValues.{HasValue}
 use Rattle.well_typed_runs.specs.GoodWorlds.{IsAccepted, IsGoodSeen, IsGoodOutcome, AreSmall}
-use Rattle.well_typed_runs.proofs.Blocks.{get_at}
 use Rattle.well_typed_runs.proofs.AddressSteps as addresses
 use Rattle.well_typed_runs.proofs.BranchSteps as branches
 use Rattle.well_typed_runs.proofs.CallSteps as calls
@@ -231,6 +227,7 @@ module _ (m : Module) (next : Input) (s : SourceSeen) (accepted : IsAccepted m) 
       found_at [] n h = absurd (omega arith)
       found_at (d ∷ declares) zero h = (d, refl)
       found_at (d ∷ declares) (suc n) h = found_at declares n (omega arith)
+
       by_start : (start : Option StartArg) (d : Declare) → IsLibraryCall declare ty args start d → StartsAsItIs m d.lib start
           → IsGoodOutcome m s (library_step m next s here.result args (values_of m s args) start d.lib)
       by_start None d call starts = plain_good declare ty args d call starts d.lib refl

@@ -1,9 +1,9 @@
 -- Edges between blocks: where they lead, and what phis take on them.
-use Rattle.std.proofs.Common.{◌≡◌, ◌⊎◌, inl, inr, ℕ, zero, suc, ◌+◌, ◌-◌, ◌<◌, ◌≤◌, List, [], ◌∷◌, length, map, take, drop, get_or, slice_get, slice_index, slice_index_or, Option, Some, None, option_map, Bool, true, false, cond, nat_lt, ◌==◌, ◌&&◌, if◌then◌else◌, refl, sym, ◌∙◌, ap, subst, arith, eqb-true}
+use Rattle.std.proofs.Common.{◌≡◌, ◌⊎◌, inl, inr, ℕ, zero, suc, ◌+◌, ◌-◌, ◌<◌, ◌≤◌, List, [], ◌∷◌, length, slice_get, slice_index, slice_index_or, Option, Some, None, option_map, Bool, true, false, nat_lt, ◌==◌, ◌&&◌, if◌then◌else◌, refl, sym, ◌∙◌, ap, subst, arith, eqb-true}
 use Rattle.std.proofs.lemmas.Bool.Decides.{nat_tests}
 use Rattle.std.proofs.lemmas.Bool.{cases_eq}
 use Rattle.std.proofs.lemmas.Option.{slice_get-map}
-use Rattle.std.specs.List.{All, Contains}
+use Rattle.std.specs.List.{Contains}
 use Rattle.std.specs.Prelude.{option_and_then}
 use Rattle.ir_core.specs.declared.faults.Fault.TheVariants.{BadType}
 use Rattle.ir_core.specs.declared.ir_module.Block.{Block}
@@ -18,19 +18,18 @@ use Rattle.ir_core.specs.declared.operations.Op.{Op}
 use Rattle.ir_core.specs.declared.operations.Op.TheVariants as op
 use Rattle.ir_core.specs.declared.refusals.Refusal.{Refusal}
 use Rattle.ir_core.specs.declared.types.IrType.{IrType}
-use Rattle.ir_core.specs.Blocks.{block_holding, entry_from, phi_entry, phis_of, start_of}
+use Rattle.ir_core.specs.Blocks.{block_holding, entry_from}
 use Rattle.ir_core.specs.NumberTypes.{type_of}
 use Rattle.ir_core.specs.Operations.{is_phi, is_terminator, is_number_type, is_value_type, given_type}
-use Rattle.ir_core.specs.ResolvedBodies.{AreBlocksFrom, IsBlockAt, IsResolvedEntry, IsResolvedFunction, IsResolvedOp, IsResolvedOperand, IsResolvedPlaced}
-use Rattle.ir_check_types.specs.Order.{earlier, first_among, unless}
+use Rattle.ir_core.specs.ResolvedBodies.{AreBlocksFrom, IsResolvedEntry, IsResolvedFunction, IsResolvedOp, IsResolvedOperand}
 use Rattle.ir_check_types.specs.Operands.{is_same, is_typed, typed_fault}
-use Rattle.ir_check_types.specs.Instructions.{number_type_fault, entries_fault, phi_fault}
+use Rattle.ir_check_types.specs.Instructions.{number_type_fault, entries_fault}
 use Rattle.ir_check_types.specs.Rules.{operation_fault}
 use Rattle.ir_check_types.proofs.PassedRules.{none_first, none_second, none_among, holds}
 use Rattle.ir_check_flow.specs.Flow.{IsIn, IsUndefinedUse, use_in_phi, IsUndefinedAt, Defines, entries_of}
-use Rattle.ir_check_flow.specs.Phis.{IsBadPhi, bad_phi, IsGoodPhi}
-use Rattle.ir_check_flow.specs.Ways.{ways_of, targets_of, targets_at, block_targets, Leads, IsPath, onward}
-use Rattle.ir_check_flow.proofs.HomesFound.{first_after, taken_from, dropped_from}
+use Rattle.ir_check_flow.specs.Phis.{IsBadPhi, bad_phi}
+use Rattle.ir_check_flow.specs.Ways.{ways_of, targets_of, targets_at, block_targets, Leads}
+use Rattle.ir_check_flow.proofs.HomesFound.{first_after}
 use Rattle.ir_meaning.specs.Births.{Birth}
 use Rattle.ir_meaning.specs.BranchSteps.{phi_value, phi_values, value_before, with_results}
 use Rattle.ir_meaning.specs.Operands.{operand_value, single}
@@ -38,9 +37,9 @@ use Rattle.ir_meaning.specs.StepEnds.{with_result}
 use Rattle.ir_meaning.specs.Values.{Value}
 use Rattle.well_typed_runs.specs.KnownValues.{IsOfType, IsKnownValue, AreGoodBirths, HasValue}
 use Rattle.well_typed_runs.specs.GoodFrames.{IsAt, IsUnset, AreGoodRegisters}
-use Rattle.well_typed_runs.proofs.Blocks.{all_at, at_end, block_at, get_at}
+use Rattle.well_typed_runs.proofs.Blocks.{all_at, at_end, block_at}
 use Rattle.well_typed_runs.proofs.Registers.{FitsResult, IsSet, is_set, result-typed, result-known, result-count, result-none}
-use Rattle.well_typed_runs.proofs.Settings.{IsSetting, value_same, same_value, number_is_value}
+use Rattle.well_typed_runs.proofs.Settings.{value_same, same_value, number_is_value}
 use Rattle.well_typed_runs.proofs.Values.{both, operand_has, single_has}
 
 -- ---- the block that holds an instruction
@@ -176,7 +175,6 @@ pub record HasPhiValue (m : Module) (births : List Birth) (f : Function) (regist
 module _ (m : Module) (births : List Birth) (f : Function) (i : ℕ) (registers : List (Option Value)) (known : AreGoodBirths m births) (resolved : IsResolvedFunction m f) (at : IsAt f i)
     (end : is_terminator at.inst.op ≡ true) (none : at.inst.result ≡ None) (good : AreGoodRegisters m births f at.before at.block i registers)
     (uses : (refusal : Refusal) → IsUndefinedUse f refusal → ⊥) (entries_good : (refusal : Refusal) → IsBadPhi f refusal → ⊥) where
-
   -- the register of an entry for this block
   entry_set : (target k n : ℕ) (block : Block) (phi : Inst) (entry : PhiEntry) (r : ℕ) → IsIn f target k block phi → slice_get (entries_of phi.op) n ≡ Some entry → entry.block ≡ at.b
       → entry.value.operand ≡ Reg r → r < length f.regs → IsSet m births f registers r
@@ -201,9 +199,11 @@ module _ (m : Module) (births : List Birth) (f : Function) (i : ℕ) (registers 
       let listed : slice_get (entries_of phi.op) h.number ≡ Some h.entry = ap (λ (o : Op). slice_get (entries_of o) h.number) is ∙ h.there in
       let has : HasValue births (type_of m h.entry.value.ty) (operand_value m registers h.entry.value) =
       operand_has m births f registers h.entry.value known (same_value (type_of m h.entry.value.ty) (type_of m ty) more.0 two.0) resolved_entry.value.operand more.1
-      (λ r operand. entry_set target k h.number block phi h.entry r inside listed h.block operand (subst (λ (o : Operand). IsResolvedOperand m f o) operand resolved_entry.value.operand)) in
-      (number, subst (λ (p : Placed). HasValue births (type_of m ty) (operand_value m registers p)) h.value
-      (value_same births (type_of m h.entry.value.ty) (type_of m ty) (operand_value m registers h.entry.value) more.0 has))
+      (λ r operand. entry_set target k h.number block phi h.entry r inside listed h.block operand (subst (λ (o : Operand). IsResolvedOperand m f o) operand resolved_entry.value.operand)) in (
+        number,
+        subst (λ (p : Placed). HasValue births (type_of m ty) (operand_value m registers p)) h.value
+            (value_same births (type_of m h.entry.value.ty) (type_of m ty) (operand_value m registers h.entry.value) more.0 has),
+      )
 
   fits_phi : (k : ℕ) (phi : Inst) (type : IrType) (v : Value) → slice_get f.insts k ≡ Some phi → given_type m phi.op ≡ type → is_number_type type ≡ true → HasValue births type (Some v)
       → FitsResult m f phi.result births v
@@ -233,6 +233,7 @@ module _ (m : Module) (births : List Birth) (f : Function) (i : ℕ) (registers 
                 ∙ single_has births (type_of m ty) v number has.0;
             fits = fits_phi k phi (type_of m ty) v inside.there (ap (λ (o : Op). given_type m o) is) number has;
           }
+
       by_entry_of : (ty : ℕ) (entries : List PhiEntry) → phi.op ≡ op.Phi ty entries → IsResolvedOp m f (op.Phi ty entries) → operation_fault m f phi.place (op.Phi ty entries) ≡ None
           → (found : Option Placed) → entry_from at.b entries ≡ found → HasPhiValue m births f registers at.b phi
       by_entry_of ty entries is named typed None e =
@@ -241,6 +242,7 @@ module _ (m : Module) (births : List Birth) (f : Function) (i : ℕ) (registers 
       by_entry_of ty entries is named typed (Some placed) e =
           let two = taken_value target k ty block phi entries inside is named typed placed e in
           by_value ty placed entries is e two.0 (operand_value m registers placed) refl two.1
+
       by_op : (o : Op) → phi.op ≡ o → is_phi o ≡ true → IsResolvedOp m f o → operation_fault m f phi.place o ≡ None → HasPhiValue m births f registers at.b phi
       by_op (op.Phi ty entries) is yes_phi named typed = by_entry_of ty entries is named typed (entry_from at.b entries) refl
       by_op other is yes_phi named typed = absurd cc

@@ -1,30 +1,30 @@
 -- Steps that go on to the next instruction.
-use Rattle.std.proofs.Common.{◌≡◌, ℕ, ◌+◌, List, [], ◌∷◌, slice_get, Option, Some, None, Bool, true, false, refl, sym, ◌∙◌, ap, subst}
+use Rattle.std.proofs.Common.{◌≡◌, ℕ, List, [], slice_get, Some, None, true, false, sym, ◌∙◌, ap, subst}
 use Rattle.ir_core.specs.declared.ir_module.Inst.{Inst}
 use Rattle.ir_core.specs.declared.ir_module.Module.{Module}
 use Rattle.ir_core.specs.declared.operands.Placed.{Placed}
 use Rattle.ir_core.specs.declared.operations.Op.{Op}
 use Rattle.ir_core.specs.declared.types.IrType.{IrType}
-use Rattle.ir_core.specs.declared.types.IrType.TheVariants.{Void, Int, Ptr}
+use Rattle.ir_core.specs.declared.types.IrType.TheVariants.{Int}
 use Rattle.ir_core.specs.NumberTypes.{type_of}
 use Rattle.ir_core.specs.Operations.{is_terminator, is_value_type, is_number_type, given_type}
 use Rattle.ir_core.specs.ResolvedBodies.{IsResolvedPlaced}
 use Rattle.ir_check_types.specs.Operands.{number_fault, integer_fault, typed_fault}
 use Rattle.ir_check_flow.specs.Flow.{operands_of}
 use Rattle.ir_meaning.specs.Births.{Birth}
-use Rattle.ir_meaning.specs.BirthChanges.{BirthsChange, same, OnlyGrow}
+use Rattle.ir_meaning.specs.BirthChanges.{same, OnlyGrow}
 use Rattle.ir_meaning.specs.Operands.{operand_value}
-use Rattle.ir_meaning.specs.State.{SourceFrame, SourceShared, SourceSeen, SourceOutcome, SourceReport, News}
+use Rattle.ir_meaning.specs.State.{SourceShared, SourceSeen, SourceReport}
 use Rattle.ir_meaning.specs.StepEnds.{next_instruction, with_result, gives_with, goes_on}
 use Rattle.ir_meaning.specs.Values.{Value}
 use Rattle.ir_meaning.proofs.BirthChangeLaws.{change-only_grows}
 use Rattle.well_typed_runs.specs.KnownValues.{IsOfType, IsKnownValue, AreGoodBirths, HasValue}
 use Rattle.well_typed_runs.specs.GoodFrames.{IsGoodFrame}
-use Rattle.well_typed_runs.specs.GoodWorlds.{IsGoodSeen, IsGoodAfter, IsGoodOutcome}
+use Rattle.well_typed_runs.specs.GoodWorlds.{IsGoodSeen, IsGoodOutcome}
 use Rattle.well_typed_runs.proofs.Blocks.{next_at}
-use Rattle.well_typed_runs.proofs.KnownBirths.{value-grows, variables-grow}
+use Rattle.well_typed_runs.proofs.KnownBirths.{variables-grow}
 use Rattle.well_typed_runs.proofs.Registers.{FitsResult, with_result-good, no_result-good}
-use Rattle.well_typed_runs.proofs.Settings.{IsSetting, no_result, fits, registers-grow, callers-grow, number_operand, integer_operand, typed_operand, operand_good}
+use Rattle.well_typed_runs.proofs.Settings.{IsSetting, no_result, fits, registers-grow, callers-grow, number_operand, integer_operand, typed_operand}
 
 module _ (m : Module) (s : SourceSeen) (good : IsGoodSeen m s) (setting : IsSetting m good.frame.f good.frame.at.inst) where
   -- the instruction at which the frame is, and the births before the step
@@ -73,11 +73,12 @@ module _ (m : Module) (s : SourceSeen) (good : IsGoodSeen m s) (setting : IsSett
       record {
         births = births;
         grow = grow;
-        frames =
-            (frame_with shared.births value plain grow
-            (fits m good.frame.f s.frame.inst here shared.births value setting good.frame.at.inside.there
-            (subst (λ (t : IrType). is_value_type t ≡ true) (sym given) v) (subst (λ (t : IrType). IsOfType t value) (sym given) typed) known),
-            callers-grow m there shared.births s.task s.frame.func s.callers grow good.callers);
+        frames = (
+          frame_with shared.births value plain grow
+              (fits m good.frame.f s.frame.inst here shared.births value setting good.frame.at.inside.there
+              (subst (λ (t : IrType). is_value_type t ≡ true) (sym given) v) (subst (λ (t : IrType). IsOfType t value) (sym given) typed) known),
+          callers-grow m there shared.births s.task s.frame.func s.callers grow good.callers,
+        );
       }
 
   -- without a result, under other births
@@ -87,9 +88,10 @@ module _ (m : Module) (s : SourceSeen) (good : IsGoodSeen m s) (setting : IsSett
       record {
         births = births;
         grow = grow;
-        frames =
-            (frame_without shared.births plain grow (no_result m good.frame.f here setting none),
-            callers-grow m there shared.births s.task s.frame.func s.callers grow good.callers);
+        frames = (
+          frame_without shared.births plain grow (no_result m good.frame.f here setting none),
+          callers-grow m there shared.births s.task s.frame.func s.callers grow good.callers,
+        );
       }
 
   pub births-same : OnlyGrow there there

@@ -1,5 +1,5 @@
 -- What was born stays born, and births stay as they should be under writes, births and deaths.
-use Rattle.std.proofs.Common.{◌≡◌, ◌≢◌, ◌⊎◌, ℕ, zero, suc, ◌+◌, ◌<◌, ◌≤◌, List, [], ◌∷◌, ◌++◌, length, map, replicate, slice_get, slice_set, Option, Some, None, option_map, Bool, true, false, if◌then◌else◌, inl, inr, refl, sym, ◌∙◌, ap, subst, arith}
+use Rattle.std.proofs.Common.{◌≡◌, ◌⊎◌, ℕ, zero, suc, ◌+◌, List, [], ◌∷◌, ◌++◌, map, replicate, slice_get, slice_set, Option, Some, None, option_map, Bool, true, false, if◌then◌else◌, inl, inr, refl, sym, ◌∙◌, ap, subst}
 use Rattle.std.proofs.lemmas.Option.{slice_get-map}
 use Rattle.std.proofs.lemmas.Bool.{cases_eq}
 use Rattle.hw_base.specs.declared.pointers.Base.{Base}
@@ -7,13 +7,13 @@ use Rattle.hw_base.specs.declared.pointers.Base.TheVariants.{Null, Object}
 use Rattle.hw_base.specs.declared.pointers.Obj.{Obj}
 use Rattle.hw_base.specs.declared.pointers.Site.{Site}
 use Rattle.ir_core.specs.declared.ir_module.Module.{Module}
-use Rattle.ir_meaning.specs.Births.{Birth, Region, Globals, Living, Dead, SourceObject, get_object, object_in, is_living, region_of, region_in, changed_at, fresh_object, fresh_birth, ended_object, ended_birth, after_death, written_from, written_object, written_birth, put_bytes}
-use Rattle.ir_meaning.specs.BirthChanges.{BirthsChange, wrote, bore, died, OnlyGrow, IsSameBirth}
+use Rattle.ir_meaning.specs.Births.{Birth, Region, Globals, Dead, SourceObject, get_object, object_in, is_living, region_in, changed_at, fresh_object, fresh_birth, ended_object, ended_birth, after_death, written_from, written_object, written_birth, put_bytes}
+use Rattle.ir_meaning.specs.BirthChanges.{BirthsChange, wrote, bore, died, OnlyGrow}
 use Rattle.ir_meaning.specs.State.{News}
 use Rattle.ir_meaning.specs.Values.{Value, Integer, Address, IntegerAndBit, SourceByte, Data, Piece}
-use Rattle.ir_meaning.proofs.BirthChangeLaws.{change-only_grows, change-has_bytes, pushed-get, slice_get-pushed}
+use Rattle.ir_meaning.proofs.BirthChangeLaws.{change-only_grows, change-has_bytes, pushed-get}
 use Rattle.well_typed_runs.specs.KnownValues.{IsBorn, IsKnownBase, IsKnownValue, IsKnownByte, AreKnownBytes, AreGoodBirths}
-use Rattle.well_typed_runs.specs.GoodFrames.{IsOfNoGlobals, HasVariables}
+use Rattle.well_typed_runs.specs.GoodFrames.{HasVariables}
 use Rattle.well_typed_runs.proofs.Registers.{get-set_here, get-set_other}
 
 -- ---- what was born stays born
@@ -136,6 +136,7 @@ births_after m before after news change good all =
     by_birth_living : (o : Obj) (x : SourceObject) (found : Option Birth) → slice_get after o.birth ≡ found → object_in found o.index ≡ Some x → region_in found ≡ Globals → is_living x.life ≡ true
     by_birth_living o x None there e region = absurd cc
     by_birth_living o x (Some birth) there e region = (all o.birth o.index birth x there e).living region
+
     by_birth_bytes : (o : Obj) (x : SourceObject) (found : Option Birth) → slice_get after o.birth ≡ found → object_in found o.index ≡ Some x → AreKnownBytes after x.bytes
     by_birth_bytes o x None there e = absurd cc
     by_birth_bytes o x (Some birth) there e = (all o.birth o.index birth x there e).bytes
@@ -194,7 +195,7 @@ births_written m births (Object o) off new good known =
 
 -- ---- births and deaths
 
-zeros-known : (births : List Birth) (size : ℕ) → AreKnownBytes births (replicate size (Data 0))
+pub zeros-known : (births : List Birth) (size : ℕ) → AreKnownBytes births (replicate size (Data 0))
 zeros-known births zero k byte e = absurd cc
 zeros-known births (suc size) zero byte e = let is : Data 0 ≡ byte = cc in subst (λ (b : SourceByte). IsKnownByte births b) is tt
 zeros-known births (suc size) (suc k) byte e = zeros-known births size k byte e

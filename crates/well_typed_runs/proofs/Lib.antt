@@ -18,3 +18,6 @@ pub mod Strings
 pub mod LibrarySteps
 pub mod CreateSteps
 pub mod EachStep
+pub mod Worlds
+pub mod Starts
+pub mod Runs

@@ -1,14 +1,8 @@
 -- The arguments of a call of a declared function have values of the types of its parameters.
-use Rattle.std.proofs.Common.{◌≡◌, ℕ, zero, suc, ◌+◌, ◌<◌, ◌≤◌, List, [], ◌∷◌, length, map, take, drop, slice_get, slice_index, Option, Some, None, Bool, true, false, ◌||◌, ◌&&◌, ◌==◌, refl, sym, ◌∙◌, ap, subst, arith, eqb-true}
-use Rattle.std.proofs.lemmas.Bool.Decides.{nat_tests}
-use Rattle.std.specs.List.{All}
-use Rattle.ir_core.specs.declared.faults.Fault.TheVariants.{BadType}
+use Rattle.std.proofs.Common.{◌≡◌, ℕ, zero, suc, ◌<◌, List, [], ◌∷◌, length, take, drop, slice_get, Option, Some, None, Bool, true, false, ◌||◌, ◌&&◌, refl, sym, ◌∙◌, ap, subst, arith, eqb-true}
 use Rattle.ir_core.specs.declared.ir_module.Declare.{Declare}
-use Rattle.ir_core.specs.declared.ir_module.Function.{Function}
 use Rattle.ir_core.specs.declared.ir_module.Inst.{Inst}
 use Rattle.ir_core.specs.declared.ir_module.Module.{Module}
-use Rattle.ir_core.specs.declared.lib_functions.Lib.{Lib}
-use Rattle.ir_core.specs.declared.lib_functions.Lib.TheVariants as lib
 use Rattle.ir_core.specs.declared.operands.Placed.{Placed}
 use Rattle.ir_core.specs.declared.operands.StartArg.{StartArg}
 use Rattle.ir_core.specs.declared.operations.Op.{Op}
@@ -16,25 +10,21 @@ use Rattle.ir_core.specs.declared.operations.Op.TheVariants as op
 use Rattle.ir_core.specs.declared.types.IrType.{IrType}
 use Rattle.ir_core.specs.declared.types.IrType.TheVariants.{Void, Int, Ptr, Array, Struct, Opaque, Pair}
 use Rattle.ir_core.specs.NumberTypes.{type_of}
-use Rattle.ir_core.specs.Operations.{is_value_type, is_number_type, given_type}
+use Rattle.ir_core.specs.Operations.{is_value_type, given_type}
 use Rattle.ir_core.specs.ResolvedBodies.{IsResolvedOp, IsResolvedPlaced}
-use Rattle.ir_check_types.specs.Order.{earlier, unless}
 use Rattle.ir_check_types.specs.Operands.{is_same, typed_fault}
-use Rattle.ir_check_types.specs.Calls.{argument_fault, arguments_fault, result_type_fault, count_of_arguments_fault, null_fault, listed_fault, task_fault, no_start_fault, started, declared_fault}
-use Rattle.ir_check_types.specs.Rules.{are_types, has_parameters, declare_fault, operation_fault}
-use Rattle.ir_check_types.specs.Signatures.{lib_result, lib_parameters, is_lifetime}
-use Rattle.ir_check_types.proofs.PassedRules.{none_first, none_second, holds}
-use Rattle.ir_check_flow.specs.Flow.{operands_of}
-use Rattle.ir_check_flow.proofs.HomesFound.{taken_from, dropped_from}
-use Rattle.ir_meaning.specs.Births.{Birth}
+use Rattle.ir_check_types.specs.Calls.{argument_fault, arguments_fault, no_start_fault}
+use Rattle.ir_check_types.specs.Rules.{are_types, has_parameters}
+use Rattle.ir_check_types.specs.Signatures.{lib_parameters, is_lifetime}
+use Rattle.ir_check_flow.proofs.HomesFound.{dropped_from}
 use Rattle.ir_meaning.specs.InstructionStep.{value_of, values_of}
-use Rattle.ir_meaning.specs.Operands.{argument, operand_value}
+use Rattle.ir_meaning.specs.Operands.{argument}
 use Rattle.ir_meaning.specs.State.{SourceSeen}
 use Rattle.ir_meaning.specs.Values.{Value}
 use Rattle.well_typed_runs.specs.KnownValues.{HasValue}
 use Rattle.well_typed_runs.specs.GoodWorlds.{IsGoodSeen}
-use Rattle.well_typed_runs.proofs.Blocks.{all_at, get_at, get_below}
-use Rattle.well_typed_runs.proofs.CallSteps.{arguments_at, argument_from, mapped_get}
+use Rattle.well_typed_runs.proofs.Blocks.{all_at, get_below}
+use Rattle.well_typed_runs.proofs.CallSteps.{arguments_at, argument_from}
 use Rattle.well_typed_runs.proofs.GoingOn as on
 use Rattle.well_typed_runs.proofs.Settings.{IsSetting, value_same}
 use Rattle.well_typed_runs.proofs.Values.{both}

@@ -1,11 +1,10 @@
 -- Calls of declared functions aren't stuck.
-use Rattle.std.proofs.Common.{◌≡◌, ◌≢◌, ℕ, zero, suc, ◌+◌, ◌*◌, ◌%◌, ◌^◌, ◌<◌, List, [], ◌∷◌, ◌++◌, length, map, take, replicate, slice_get, Option, Some, None, Bool, true, false, nat_le, ◌==◌, if◌then◌else◌, refl, sym, ◌∙◌, ap, subst, arith}
-use Rattle.hw_base.specs.Bits.{bit_of}
+use Rattle.std.proofs.Common.{◌≡◌, ◌≢◌, ℕ, zero, suc, ◌+◌, ◌*◌, ◌%◌, ◌^◌, List, [], ◌∷◌, ◌++◌, length, take, replicate, slice_get, Option, Some, None, Bool, true, false, ◌==◌, if◌then◌else◌, refl, sym, ◌∙◌, ap, subst, arith}
 use Rattle.hw_base.specs.declared.accesses.Access.{Access}
 use Rattle.hw_base.specs.declared.accesses.Access.TheVariants.{Read, Write, Free}
 use Rattle.hw_base.specs.declared.endings.Input.{Input}
 use Rattle.hw_base.specs.declared.endings.Input.TheVariants.{Byte, End}
-use Rattle.hw_base.specs.declared.numbers.TheConstants.{MUTEX_SIZE, TASK_NUMBER_SIZE}
+use Rattle.hw_base.specs.declared.numbers.TheConstants.{MUTEX_SIZE}
 use Rattle.hw_base.specs.declared.operators.BitOp.{BitOp}
 use Rattle.hw_base.specs.declared.operators.BitOp.TheVariants as bits
 use Rattle.hw_base.specs.declared.operators.OverOp.{OverOp}
@@ -13,40 +12,38 @@ use Rattle.hw_base.specs.declared.pointers.Base.{Base}
 use Rattle.hw_base.specs.declared.pointers.Base.TheVariants.{Null, Object}
 use Rattle.hw_base.specs.declared.pointers.Obj.{Obj}
 use Rattle.hw_tags.specs.TaskRuns.{Stuck}
-use Rattle.ir_core.specs.LibraryAccesses.{LibraryAccess, Counted, Fixed, Text, Freed, accesses_of}
+use Rattle.ir_core.specs.LibraryAccesses.{Counted, Fixed, Text, Freed}
 use Rattle.ir_core.specs.declared.ir_module.Inst.{Inst}
 use Rattle.ir_core.specs.declared.ir_module.Module.{Module}
 use Rattle.ir_core.specs.declared.operands.Placed.{Placed}
-use Rattle.ir_core.specs.declared.operations.Op.{Op}
 use Rattle.ir_core.specs.declared.types.IrType.{IrType}
-use Rattle.ir_core.specs.declared.types.IrType.TheVariants.{Void, Int, Ptr, Array, Struct, Opaque, Pair}
-use Rattle.ir_core.specs.Operations.{is_terminator, is_value_type, is_number_type, given_type}
+use Rattle.ir_core.specs.declared.types.IrType.TheVariants.{Int, Ptr, Pair}
+use Rattle.ir_core.specs.Operations.{is_terminator, is_value_type, given_type}
 use Rattle.ir_check_types.specs.Signatures.{bits_parameters}
-use Rattle.ir_meaning.specs.AccessRule.{AccessAnswer, Fine, Violates, WritesConstant, IsOutside, NoAnswer, AccessBase, access_rule, access_answer, accessed, accessed_in, free_answer, start_free}
-use Rattle.ir_meaning.specs.ArithmeticSteps.{bits_step, overflow_step, gives_overflow}
+use Rattle.ir_meaning.specs.AccessRule.{AccessAnswer, Fine, access_rule, access_answer, accessed_in, free_answer, start_free}
+use Rattle.ir_meaning.specs.ArithmeticSteps.{bits_step, overflow_step}
 use Rattle.ir_meaning.specs.Births.{Birth, Region, Globals, Stack, Heap, SourceObject, get_object, object_in, region_of, region_in, bytes_in, bytes_at, put_bytes, after_death, fresh_birth}
 use Rattle.ir_meaning.specs.BirthChanges.{BirthsChange, OnlyGrow, bore, wrote, died, both}
 use Rattle.ir_meaning.specs.BlockFunctions.{block_of, block_pointer, births_with, births_copied, births_resized, block_news, death_of, allocated, malloc_step, calloc_step, freed, free_step, resized, realloc_step}
 use Rattle.ir_meaning.specs.ByteFunctions.{copy_step, set_step, gives_order, memcmp_step}
-use Rattle.ir_meaning.specs.Encoding.{number_bytes, int_from, data_numbers}
-use Rattle.ir_meaning.specs.InstructionStep.{values_of}
+use Rattle.ir_meaning.specs.Encoding.{number_bytes, int_from}
 use Rattle.ir_meaning.specs.LibraryCalls.{on_string, on_library_access, on_accesses, nothing_step, lifetime_step}
 use Rattle.ir_meaning.specs.Operands.{argument, with_integer, with_pointer}
 use Rattle.ir_meaning.specs.State.{SourceSeen, SourceOutcome, SourceShared, SourceReport, nothing_happened, telling, printing}
-use Rattle.ir_meaning.specs.StepEnds.{chain_of, gives, gives_with, goes_on, stored, on_answer, on_access, on_integer}
+use Rattle.ir_meaning.specs.StepEnds.{chain_of, gives, gives_with, stored, on_access}
 use Rattle.ir_meaning.specs.Strings.{StringAnswer, Whole, Refused, MeetsPiece, NotEnded, string_at}
 use Rattle.ir_meaning.specs.TaskFunctions.{joined, join_step, mutex_init_step, mutex_lock_step, mutex_unlock_step, mutex_destroy_step, word_stored}
-use Rattle.ir_meaning.specs.TextFunctions.{on_whole, strlen_step, puts_step, putchar_step, taken, taken_if, getchar_step, exit_step, abort_step}
+use Rattle.ir_meaning.specs.TextFunctions.{on_whole, strlen_step, puts_step, putchar_step, taken_if, getchar_step, exit_step, abort_step}
 use Rattle.ir_meaning.specs.Values.{Value, Integer, Address, IntegerAndBit, Data, SourceByte}
 use Rattle.ir_meaning.proofs.BirthChangeLaws.{change-only_grows}
-use Rattle.well_typed_runs.specs.KnownValues.{IsBorn, IsKnownBase, IsKnownByte, AreKnownBytes, AreGoodBirths, HasValue, IsOfType, IsKnownValue}
+use Rattle.well_typed_runs.specs.KnownValues.{IsBorn, IsKnownBase, IsKnownByte, AreKnownBytes, AreGoodBirths, HasValue}
 use Rattle.well_typed_runs.specs.GoodWorlds.{IsGoodSeen, IsGoodOutcome, AreSmall}
 use Rattle.well_typed_runs.proofs.Accesses.{access_good, answer_good, read_integer_good}
 use Rattle.well_typed_runs.proofs.Bytes.{read-known, number-known, object-known, taken-known}
 use Rattle.well_typed_runs.proofs.KnownBirths.{births_written, births_born, births_ended, bytes-grow, born-grows, base-grows}
 use Rattle.well_typed_runs.proofs.MemorySteps as memory
 use Rattle.well_typed_runs.proofs.GoingOn as on
-use Rattle.well_typed_runs.proofs.Settings.{IsSetting, no_result}
+use Rattle.well_typed_runs.proofs.Settings.{IsSetting}
 use Rattle.well_typed_runs.proofs.Strings.{IsAnswered, string_answered, string_ends}
 use Rattle.well_typed_runs.proofs.Values.{integer_good, pointer_good}
 
@@ -65,6 +62,7 @@ freed-region births o off fine birth there global = by_object (get_object births
     by_region Globals living e g = absurd cc
     by_region (Stack func) living e g = absurd cc
     by_region Heap living e g = absurd cc
+
     by_object : (found : Option SourceObject) → free_answer (accessed_in (region_of births o) found) off ≡ Fine → ⊥
     by_object None e = absurd cc
     by_object (Some x) e =

@@ -1,6 +1,6 @@
 -- Loads, stores and atomic instructions aren't stuck.
-use Rattle.std.proofs.Common.{◌≡◌, ℕ, zero, suc, ◌+◌, List, [], ◌∷◌, slice_get, Option, Some, None, Bool, true, false, ◌==◌, if◌then◌else◌, ◌&&◌, refl, sym, ◌∙◌, ap, subst}
-use Rattle.std.specs.Prelude.{Result, Ok, Err, ok_or}
+use Rattle.std.proofs.Common.{◌≡◌, ℕ, List, [], Option, Some, None, Bool, true, false, ◌==◌, if◌then◌else◌, ◌&&◌, refl, sym, ap, subst}
+use Rattle.std.specs.Prelude.{ok_or}
 use Rattle.hw_base.specs.declared.accesses.Access.TheVariants.{Read, Write}
 use Rattle.hw_base.specs.declared.accesses.Reason.TheVariants.{MixedBytes}
 use Rattle.hw_base.specs.declared.operators.RmwOp.{RmwOp}
@@ -12,13 +12,12 @@ use Rattle.ir_core.specs.declared.operands.Placed.{Placed}
 use Rattle.ir_core.specs.declared.operations.Op.{Op}
 use Rattle.ir_core.specs.declared.operations.Op.TheVariants as op
 use Rattle.ir_core.specs.declared.types.IrType.{IrType}
-use Rattle.ir_core.specs.declared.types.IrType.TheVariants.{Void, Int, Ptr, Array, Struct, Opaque, Pair}
+use Rattle.ir_core.specs.declared.types.IrType.TheVariants.{Int, Ptr, Pair}
 use Rattle.ir_core.specs.Layout.{int_store_size}
 use Rattle.ir_core.specs.NumberTypes.{type_of}
 use Rattle.ir_core.specs.Operations.{is_terminator, is_value_type, is_number_type, given_type, pair_of}
 use Rattle.ir_core.specs.ResolvedBodies.{IsResolvedOp}
 use Rattle.ir_core.specs.Runnable.{IsAtomic, IsRunnableOp}
-use Rattle.ir_check_types.specs.Order.{earlier, unless}
 use Rattle.ir_check_types.specs.Operands.{is_same, number_fault, typed_fault, is_typed}
 use Rattle.ir_check_types.specs.Instructions.{number_type_fault, atomic_fault}
 use Rattle.ir_check_types.specs.Rules.{operation_fault}
@@ -27,12 +26,12 @@ use Rattle.ir_meaning.specs.Births.{put_bytes, bytes_at}
 use Rattle.ir_meaning.specs.BirthChanges.{wrote, OnlyGrow}
 use Rattle.ir_meaning.specs.Encoding.{number_bytes, pointer_bytes, int_from, pointer_from}
 use Rattle.ir_meaning.specs.InstructionStep.{value_of}
-use Rattle.ir_meaning.specs.MemorySteps.{load_step, store_step, rmw_step, cmpxchg_step, integer_stored}
+use Rattle.ir_meaning.specs.MemorySteps.{load_step, store_step, rmw_step, cmpxchg_step}
 use Rattle.ir_meaning.specs.State.{SourceSeen, SourceOutcome, nothing_happened}
 use Rattle.ir_meaning.specs.StepEnds.{gives, goes_on, stored, on_read}
 use Rattle.ir_meaning.specs.Values.{Value, Integer, IntegerAndBit, SourceByte}
 use Rattle.ir_meaning.proofs.BirthChangeLaws.{change-only_grows}
-use Rattle.well_typed_runs.specs.KnownValues.{IsKnownBase, AreKnownBytes, AreGoodBirths, HasValue}
+use Rattle.well_typed_runs.specs.KnownValues.{AreKnownBytes, HasValue}
 use Rattle.well_typed_runs.specs.GoodWorlds.{IsGoodSeen, IsGoodOutcome}
 use Rattle.well_typed_runs.proofs.Accesses.{access_good, read_integer_good}
 use Rattle.well_typed_runs.proofs.Bytes.{read-known, pointer-has, number-known, pointer-known}

@@ -1,8 +1,7 @@
 -- Registers after a result, and registers that operands read.
-use Rattle.std.proofs.Common.{◌≡◌, ◌≢◌, ◌⊎◌, ℕ, zero, suc, ◌+◌, ◌<◌, ◌≤◌, List, [], ◌∷◌, length, slice_get, slice_set, slice_index, get_or, Option, Some, None, option_map, Bool, true, false, ◌==◌, inl, inr, refl, sym, ◌∙◌, ap, subst, arith}
+use Rattle.std.proofs.Common.{◌≡◌, ◌≢◌, ◌⊎◌, ℕ, zero, suc, ◌+◌, ◌<◌, List, [], ◌∷◌, length, slice_get, slice_set, slice_index, Option, Some, None, option_map, inl, inr, refl, sym, ◌∙◌, ap, subst, arith}
 use Rattle.std.proofs.lemmas.Bool.{cases_eq}
 use Rattle.std.proofs.lemmas.List.{length-set}
-use Rattle.std.specs.List.{All}
 use Rattle.ir_core.specs.declared.ir_module.Block.{Block}
 use Rattle.ir_core.specs.declared.ir_module.Inst.{Inst}
 use Rattle.ir_core.specs.declared.ir_module.Function.{Function}
@@ -10,11 +9,8 @@ use Rattle.ir_core.specs.declared.ir_module.Module.{Module}
 use Rattle.ir_core.specs.declared.operands.Operand.TheVariants.{Reg}
 use Rattle.ir_core.specs.declared.operands.Placed.{Placed}
 use Rattle.ir_core.specs.declared.refusals.Refusal.{Refusal}
-use Rattle.ir_core.specs.declared.types.IrType.{IrType}
 use Rattle.ir_core.specs.NumberTypes.{type_of}
-use Rattle.ir_check_flow.specs.Check.{IsFlowFault}
-use Rattle.ir_check_flow.specs.First.{IsFirstOf}
-use Rattle.ir_check_flow.specs.Flow.{IsIn, IsUndefinedUse, use_in_block, operands_of, NoneDefines, IsNotBefore}
+use Rattle.ir_check_flow.specs.Flow.{IsUndefinedUse, use_in_block, operands_of}
 use Rattle.ir_meaning.specs.Births.{Birth}
 use Rattle.ir_meaning.specs.StepEnds.{with_result}
 use Rattle.ir_meaning.specs.Values.{Value}
@@ -115,13 +111,13 @@ unset-next f before block i r inst there other h =
       later = h.later;
       none = h.none;
       not_before = λ j x from to at gives.
-      elim (cases_eq j i) [
-        | inl same ↦
-            let here : slice_get f.insts i ≡ Some x = subst (λ k. slice_get f.insts k ≡ Some x) same at in
-            let is : x ≡ inst = cc in
-            other (ap (λ (y : Inst). y.result) (sym is) ∙ gives)
-        | inr apart ↦ h.not_before j x from (lower j i to apart) at gives
-      ];
+          elim (cases_eq j i) [
+            | inl same ↦
+                let here : slice_get f.insts i ≡ Some x = subst (λ k. slice_get f.insts k ≡ Some x) same at in
+                let is : x ≡ inst = cc in
+                other (ap (λ (y : Inst). y.result) (sym is) ∙ gives)
+            | inr apart ↦ h.not_before j x from (lower j i to apart) at gives
+          ];
     }
   where
     lower : (j i : ℕ) → j < i + 1 → (j ≡ i → ⊥) → j < i
@@ -137,8 +133,8 @@ with_result-good m births f before block i inst registers value there fits h =
       typed = result-typed m births f registers inst.result value fits h.typed;
       known = result-known m births f registers inst.result value fits h.known;
       unset = λ r e.
-      let two = result-none registers inst.result value r e in
-      unset-next f before block i r inst there two.0 (h.unset r two.1);
+          let two = result-none registers inst.result value r e in
+          unset-next f before block i r inst there two.0 (h.unset r two.1);
     }
 
 -- the same registers, after an instruction without a result

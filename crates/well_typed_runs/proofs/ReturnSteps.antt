@@ -1,7 +1,6 @@
 -- Returns aren't stuck, and give the caller a value of the type of its register.
-use Rattle.std.proofs.Common.{◌≡◌, ℕ, zero, suc, ◌+◌, ◌<◌, List, [], ◌∷◌, ◌++◌, length, slice_get, Option, Some, None, Bool, true, false, ◌||◌, ◌&&◌, refl, sym, ◌∙◌, ap, subst, arith}
+use Rattle.std.proofs.Common.{◌≡◌, ℕ, zero, suc, List, [], ◌∷◌, slice_get, Option, Some, None, true, false, refl, sym, ◌∙◌, ap, subst}
 use Rattle.std.specs.Prelude.{option_and_then, option_map}
-use Rattle.hw_base.specs.declared.pointers.Site.{Site}
 use Rattle.ir_core.specs.declared.faults.Fault.TheVariants.{BadType}
 use Rattle.ir_core.specs.declared.ir_module.Function.{Function}
 use Rattle.ir_core.specs.declared.ir_module.Inst.{Inst}
@@ -14,29 +13,27 @@ use Rattle.ir_core.specs.declared.types.IrType.TheVariants.{Void, Int, Ptr, Arra
 use Rattle.ir_core.specs.NumberTypes.{type_of}
 use Rattle.ir_core.specs.Operations.{is_terminator, is_value_type, is_number_type, given_type}
 use Rattle.ir_core.specs.ResolvedBodies.{IsResolvedOp}
-use Rattle.ir_check_types.specs.Order.{earlier, unless}
+use Rattle.ir_check_types.specs.Order.{unless}
 use Rattle.ir_check_types.specs.Operands.{is_same, number_fault}
 use Rattle.ir_check_types.specs.Calls.{callee_fault, result_type_fault}
 use Rattle.ir_check_types.specs.Rules.{operation_fault}
 use Rattle.ir_check_types.proofs.PassedRules.{none_first, none_second, holds}
 use Rattle.ir_meaning.specs.Births.{Birth, after_death}
 use Rattle.ir_meaning.specs.BirthChanges.{OnlyGrow, same, died}
-use Rattle.ir_meaning.specs.CallSteps.{frame_ended, end_report, last_return, result_of, instruction_in, call_result, with_returned, returns_to, returned_value, ret_step}
+use Rattle.ir_meaning.specs.CallSteps.{frame_ended, last_return, result_of, instruction_in, call_result, with_returned, returns_to, returned_value, ret_step}
 use Rattle.ir_meaning.specs.InstructionStep.{value_of}
-use Rattle.ir_meaning.specs.Operands.{operand_value, optional_value, single, with_named}
-use Rattle.ir_meaning.specs.State.{SourceFrame, SourceSeen, SourceOutcome, SourceShared}
+use Rattle.ir_meaning.specs.Operands.{optional_value, single, with_named}
+use Rattle.ir_meaning.specs.State.{SourceFrame, SourceSeen, SourceOutcome}
 use Rattle.ir_meaning.specs.StepEnds.{chain_of, next_instruction}
 use Rattle.ir_meaning.specs.Values.{Value}
 use Rattle.ir_meaning.proofs.BirthChangeLaws.{change-only_grows}
 use Rattle.well_typed_runs.specs.KnownValues.{IsOfType, IsKnownValue, AreGoodBirths, HasValue}
 use Rattle.well_typed_runs.specs.GoodFrames.{HasVariables, IsGoodFrame, IsGoodCaller, AreGoodCallers, Calls}
 use Rattle.well_typed_runs.specs.GoodWorlds.{IsAccepted, IsGoodSeen, IsGoodOutcome}
-use Rattle.well_typed_runs.proofs.Blocks.{all_at}
 use Rattle.well_typed_runs.proofs.KnownBirths.{births_ended, value-grows}
 use Rattle.well_typed_runs.proofs.GoingOn as on
-use Rattle.well_typed_runs.proofs.Registers.{FitsResult}
-use Rattle.well_typed_runs.proofs.Settings.{IsSetting, setting_of, no_result, fits, function_resolved, frame-grows, callers-grow, number_is_value}
-use Rattle.well_typed_runs.proofs.Values.{both, integer_good, named_good, single_has, same_kind, same_type}
+use Rattle.well_typed_runs.proofs.Settings.{IsSetting, setting_of, no_result, fits, callers-grow, number_is_value}
+use Rattle.well_typed_runs.proofs.Values.{integer_good, named_good, single_has, same_type}
 
 -- ---- types of results
 
@@ -174,6 +171,7 @@ module _ (m : Module) (s : SourceSeen) (accepted : IsAccepted m) (good : IsGoodS
     where
       main : type_of m good.frame.f.result ≡ Int 32
       main = main_result is (subst (λ (callers : List SourceFrame). AreGoodCallers m s.shared.births s.task s.frame.func callers) none good.callers is)
+
       by_value : (value : Option Value) → IsReturned m s.shared.births good.frame.f value → IsGoodOutcome m s (last_return s value 0)
       by_value None h = let no_void : is_same (Int 32) Void ≡ true = subst (λ (t : IrType). is_same t Void ≡ true) main h in absurd cc
       by_value (Some v) h =
@@ -187,10 +185,11 @@ module _ (m : Module) (s : SourceSeen) (accepted : IsAccepted m) (good : IsGoodS
       record {
         births = births_after_end;
         grow = grow_after;
-        frames =
-            (returned_frame caller callers all.0 all.1 value returned,
-            subst (λ (func : ℕ). AreGoodCallers m after s.task func callers) (sym (same_function caller (call_result m caller) value))
-            (callers-grow m s.shared.births after s.task caller.func callers grow_after all.1));
+        frames = (
+          returned_frame caller callers all.0 all.1 value returned,
+          subst (λ (func : ℕ). AreGoodCallers m after s.task func callers) (sym (same_function caller (call_result m caller) value))
+              (callers-grow m s.shared.births after s.task caller.func callers grow_after all.1),
+        );
       }
 
   pub ret_good : (value : Option Placed) → here.op ≡ op.Ret value → IsResolvedOp m good.frame.f (op.Ret value) → operation_fault m good.frame.f here.place (op.Ret value) ≡ None

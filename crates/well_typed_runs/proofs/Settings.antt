@@ -1,5 +1,5 @@
 -- What is known of an instruction of an accepted module at which a frame is, and of its operands.
-use Rattle.std.proofs.Common.{◌≡◌, ℕ, zero, suc, ◌+◌, ◌<◌, ◌≤◌, ◌⊎◌, inl, inr, List, [], ◌∷◌, length, slice_get, slice_index, Option, Some, None, Bool, true, false, ◌||◌, ◌&&◌, refl, sym, ◌∙◌, ap, subst, arith}
+use Rattle.std.proofs.Common.{◌≡◌, ℕ, ◌<◌, inl, inr, List, [], ◌∷◌, length, slice_get, Option, Some, None, true, false, ◌||◌, ◌&&◌, refl, sym, subst}
 use Rattle.std.specs.Prelude.{is_none}
 use Rattle.std.specs.List.{All}
 use Rattle.ir_core.specs.declared.ir_module.Block.{Block}
@@ -8,38 +8,32 @@ use Rattle.ir_core.specs.declared.ir_module.Function.{Function}
 use Rattle.ir_core.specs.declared.ir_module.Inst.{Inst}
 use Rattle.ir_core.specs.declared.ir_module.Module.{Module}
 use Rattle.ir_core.specs.declared.operands.Operand.{Operand}
-use Rattle.ir_core.specs.declared.operands.Operand.TheVariants.{Reg}
 use Rattle.ir_core.specs.declared.operands.Placed.{Placed}
-use Rattle.ir_core.specs.declared.operations.Op.{Op}
-use Rattle.ir_core.specs.declared.faults.Fault.{Fault}
 use Rattle.ir_core.specs.declared.faults.Fault.TheVariants.{BadType}
-use Rattle.ir_core.specs.declared.refusals.Place.{Place}
 use Rattle.ir_core.specs.declared.refusals.Refusal.{Refusal}
 use Rattle.ir_core.specs.declared.types.IrType.{IrType}
 use Rattle.ir_core.specs.declared.types.IrType.TheVariants.{Void, Int, Ptr, Array, Struct, Opaque, Pair}
 use Rattle.ir_core.specs.NumberTypes.{type_of}
-use Rattle.ir_core.specs.Operations.{is_terminator, is_value_type, is_number_type, given_type}
-use Rattle.ir_core.specs.ResolvedBodies.{IsResolved, IsResolvedFunction, IsResolvedOp, IsResolvedOperand, IsResolvedPlaced}
-use Rattle.ir_core.specs.Runnable.{IsRunnable, IsRunnableFunction, IsRunnableOp, HasPhisFirst}
-use Rattle.ir_check_types.specs.Order.{earlier, first_among, unless}
+use Rattle.ir_core.specs.Operations.{is_value_type, is_number_type, given_type}
+use Rattle.ir_core.specs.ResolvedBodies.{IsResolvedFunction, IsResolvedOp, IsResolvedOperand, IsResolvedPlaced}
+use Rattle.ir_core.specs.Runnable.{IsRunnableFunction, IsRunnableOp, HasPhisFirst}
+use Rattle.ir_check_types.specs.Order.{first_among, unless}
 use Rattle.ir_check_types.specs.Operands.{is_integer, is_same, is_typed, number_fault, integer_fault, typed_fault}
-use Rattle.ir_check_types.specs.Rules.{operation_fault, name_fault, instruction_fault, instructions_fault, function_fault, declare_fault, global_fault, loop_fault, has_simple_types, type_fault}
+use Rattle.ir_check_types.specs.Rules.{operation_fault, name_fault, instruction_fault, instructions_fault, function_fault, declare_fault, global_fault, loop_fault, has_simple_types}
 use Rattle.ir_check_types.proofs.PassedRules.{none_first, none_second, holds, none_among}
-use Rattle.ir_check_flow.specs.Check.{IsFlowFaultOf}
 use Rattle.ir_check_flow.specs.Flow.{IsUndefinedUse, operands_of}
 use Rattle.ir_check_flow.specs.Phis.{IsBadPhi}
 use Rattle.ir_meaning.specs.Births.{Birth}
 use Rattle.ir_meaning.specs.BirthChanges.{OnlyGrow}
 use Rattle.ir_meaning.specs.Operands.{operand_value}
-use Rattle.ir_meaning.specs.State.{SourceFrame, SourceSeen}
-use Rattle.ir_meaning.specs.StepEnds.{next_instruction, with_result}
+use Rattle.ir_meaning.specs.State.{SourceFrame}
 use Rattle.ir_meaning.specs.Values.{Value}
 use Rattle.well_typed_runs.specs.KnownValues.{IsOfType, IsKnownValue, AreGoodBirths, HasValue}
-use Rattle.well_typed_runs.specs.GoodFrames.{IsAt, AreGoodRegisters, IsGoodFrame, IsGoodCaller, AreGoodCallers, IsGoodTask, Calls}
-use Rattle.well_typed_runs.specs.GoodWorlds.{IsAccepted, IsGoodSeen, IsGoodAfter}
-use Rattle.well_typed_runs.proofs.Blocks.{all_at, next_at}
+use Rattle.well_typed_runs.specs.GoodFrames.{AreGoodRegisters, IsGoodFrame, AreGoodCallers, IsGoodTask, Calls}
+use Rattle.well_typed_runs.specs.GoodWorlds.{IsAccepted}
+use Rattle.well_typed_runs.proofs.Blocks.{all_at}
 use Rattle.well_typed_runs.proofs.KnownBirths.{value-grows, variables-grow}
-use Rattle.well_typed_runs.proofs.Registers.{FitsResult, with_result-good, no_result-good, operand_set}
+use Rattle.well_typed_runs.proofs.Registers.{FitsResult, operand_set}
 use Rattle.well_typed_runs.proofs.Values.{both, operand_has, same_kind}
 
 -- ---- functions of an accepted module
@@ -177,9 +171,12 @@ pub integer_operand : (m : Module) (births : List Birth) (frame : SourceFrame) (
 integer_operand m births frame n placed known good setting there resolved e =
     let two = both (is_integer (type_of m placed.ty)) (is_typed m good.f placed) (holds _ BadType placed.place e) in
     let wide = integer_type (type_of m placed.ty) two.0 in
-    let v : is_value_type (type_of m placed.ty) ≡ true = subst (λ (t : IrType). is_value_type t ≡ true) (sym wide.is) refl in
-    (wide.width, wide.is, subst (λ (t : IrType). HasValue births t (operand_value m frame.registers placed)) wide.is
-    (operand_good m births frame n placed known good setting there resolved v two.1))
+    let v : is_value_type (type_of m placed.ty) ≡ true = subst (λ (t : IrType). is_value_type t ≡ true) (sym wide.is) refl in (
+      wide.width,
+      wide.is,
+      subst (λ (t : IrType). HasValue births t (operand_value m frame.registers placed)) wide.is
+          (operand_good m births frame n placed known good setting there resolved v two.1),
+    )
 
 pub value_same : (births : List Birth) (type wanted : IrType) (found : Option Value) → is_same type wanted ≡ true → HasValue births type found → HasValue births wanted found
 value_same births type wanted None e h = absurd h
@@ -235,11 +232,13 @@ frame-grows-inst m before after frame grow h = refl
 pub callers-grow : (m : Module) (before after : List Birth) (task func : ℕ) (callers : List SourceFrame) → OnlyGrow before after → AreGoodCallers m before task func callers
     → AreGoodCallers m after task func callers
 callers-grow m before after task func [] grow h = h
-callers-grow m before after task func (caller ∷ callers) grow h =
-    (record {
-      frame = frame-grows m before after caller grow h.0.frame;
-      calls = subst (λ (x : Inst). Calls func x.op) (sym (frame-grows-inst m before after caller grow h.0.frame)) h.0.calls;
-    }, callers-grow m before after task caller.func callers grow h.1)
+callers-grow m before after task func (caller ∷ callers) grow h = (
+  record {
+    frame = frame-grows m before after caller grow h.0.frame;
+    calls = subst (λ (x : Inst). Calls func x.op) (sym (frame-grows-inst m before after caller grow h.0.frame)) h.0.calls;
+  },
+  callers-grow m before after task caller.func callers grow h.1,
+)
 
 pub task-grows : (m : Module) (before after : List Birth) (task : ℕ) (frames : List SourceFrame) → OnlyGrow before after → IsGoodTask m before task frames → IsGoodTask m after task frames
 task-grows m before after task [] grow h = h

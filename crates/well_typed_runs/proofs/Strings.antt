@@ -1,5 +1,5 @@
 -- The scan of a string ends in one of the ways that a step goes on from.
-use Rattle.std.proofs.Common.{◌≡◌, ◌≢◌, ℕ, zero, suc, ◌+◌, ◌%◌, ◌^◌, ◌<◌, List, [], ◌∷◌, Option, Some, None, refl, sym, ◌∙◌, ap, subst, arith}
+use Rattle.std.proofs.Common.{◌≡◌, ◌≢◌, ℕ, zero, suc, ◌+◌, ◌%◌, ◌^◌, ◌<◌, List, [], ◌∷◌, Option, Some, None, refl, arith}
 use Rattle.hw_base.specs.declared.accesses.Access.TheVariants.{Read}
 use Rattle.hw_base.specs.declared.pointers.Base.{Base}
 use Rattle.hw_base.specs.declared.pointers.Base.TheVariants.{Null, Object}
@@ -55,6 +55,7 @@ string_ends m births base off good small = string_at-ends births base off good.s
     by_object : (found : Option SourceObject) → ((x : SourceObject) → found ≡ Some x → x.size < 2 ^ 64) → size_in found < 2 ^ 64
     by_object None h = omega arith
     by_object (Some x) h = h x refl
+
     by_base : (base : Base) → base_size births base < 2 ^ 64
     by_base Null = omega arith
     by_base (Object o) = by_object (get_object births o) (λ x e. small o x e)

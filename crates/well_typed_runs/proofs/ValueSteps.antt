@@ -1,6 +1,6 @@
 -- Steps that compute a value from values, are not stuck and give a value of the type of their register.
-use Rattle.std.proofs.Common.{◌≡◌, ℕ, zero, suc, ◌+◌, List, [], ◌∷◌, slice_get, Option, Some, None, Bool, true, false, if◌then◌else◌, ◌&&◌, refl, sym, ◌∙◌, ap, subst}
-use Rattle.std.specs.Prelude.{Result, Ok, Err, is_some}
+use Rattle.std.proofs.Common.{◌≡◌, ℕ, zero, suc, slice_get, Option, Some, None, Bool, true, false, if◌then◌else◌, ◌&&◌, refl, ◌∙◌, ap, subst}
+use Rattle.std.specs.Prelude.{Result, Ok, Err}
 use Rattle.hw_base.specs.Bits.{bit_of, is_set}
 use Rattle.hw_base.specs.declared.endings.Trap.{Trap}
 use Rattle.hw_base.specs.declared.operators.BinOp.{BinOp}
@@ -15,21 +15,20 @@ use Rattle.ir_core.specs.declared.operations.Op.{Op}
 use Rattle.ir_core.specs.declared.operations.Op.TheVariants as op
 use Rattle.ir_core.specs.declared.types.IrType.{IrType}
 use Rattle.ir_core.specs.declared.types.IrType.TheVariants.{Void, Int, Ptr, Array, Struct, Opaque, Pair}
-use Rattle.ir_core.specs.NumberTypes.{type_of, bits_of}
+use Rattle.ir_core.specs.NumberTypes.{type_of}
 use Rattle.ir_core.specs.Operations.{is_terminator, is_value_type, is_number_type, given_type, part_of}
-use Rattle.ir_core.specs.ResolvedBodies.{IsResolvedPlaced, IsResolvedOp}
-use Rattle.ir_check_types.specs.Order.{earlier, unless}
-use Rattle.ir_check_types.specs.Operands.{is_integer, number_fault, integer_fault, typed_fault, is_typed}
-use Rattle.ir_check_types.specs.Instructions.{number_type_fault, binary_fault, compare_fault, is_cast, cast_fault, select_fault, freeze_fault, is_pair, part_fault}
+use Rattle.ir_core.specs.ResolvedBodies.{IsResolvedOp}
+use Rattle.ir_check_types.specs.Order.{unless}
+use Rattle.ir_check_types.specs.Operands.{number_fault, integer_fault, typed_fault, is_typed}
+use Rattle.ir_check_types.specs.Instructions.{number_type_fault, is_cast, is_pair}
 use Rattle.ir_check_types.specs.Rules.{operation_fault}
 use Rattle.ir_check_types.proofs.PassedRules.{none_first, none_second, holds}
 use Rattle.ir_check_flow.specs.Flow.{operands_of}
-use Rattle.ir_meaning.specs.ArithmeticSteps.{binary_step, gives_or_traps, icmp_step, gives_comparison, cast_step, select_step, freeze_step, extract_step, part_of_pair}
+use Rattle.ir_meaning.specs.ArithmeticSteps.{binary_step, gives_or_traps, icmp_step, gives_comparison, cast_step, select_step, freeze_step, extract_step}
 use Rattle.ir_meaning.specs.InstructionStep.{value_of, width_at}
-use Rattle.ir_meaning.specs.Operands.{operand_value}
 use Rattle.ir_meaning.specs.State.{SourceSeen, SourceOutcome, nothing_happened}
 use Rattle.ir_meaning.specs.StepEnds.{gives}
-use Rattle.ir_meaning.specs.Values.{Value, Integer, IntegerAndBit}
+use Rattle.ir_meaning.specs.Values.{Value, Integer}
 use Rattle.well_typed_runs.specs.KnownValues.{IsOfType, IsKnownValue, HasValue}
 use Rattle.well_typed_runs.specs.GoodWorlds.{IsGoodSeen, IsGoodOutcome}
 use Rattle.well_typed_runs.proofs.Settings.{IsSetting, number_is_value, operand_good}

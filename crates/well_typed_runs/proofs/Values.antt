@@ -1,9 +1,9 @@
 -- Operands have values of their types, and steps go on from them.
-use Rattle.std.proofs.Common.{◌≡◌, ℕ, zero, suc, ◌+◌, ◌<◌, ◌≤◌, List, [], ◌∷◌, length, slice_get, slice_index, Option, Some, None, Bool, true, false, ◌==◌, ◌&&◌, refl, sym, ◌∙◌, ap, subst, arith, eqb-true}
+use Rattle.std.proofs.Common.{◌≡◌, ℕ, List, [], slice_get, slice_index, Option, Some, None, Bool, true, false, ◌&&◌, refl, sym, ap, subst, eqb-true}
 use Rattle.std.specs.Prelude.{option_and_then}
 use Rattle.std.specs.Option.{option_flatten}
 use Rattle.hw_base.specs.declared.pointers.Base.{Base}
-use Rattle.hw_base.specs.declared.pointers.Base.TheVariants.{Null as NullBase, Object}
+use Rattle.hw_base.specs.declared.pointers.Base.TheVariants.{Object}
 use Rattle.ir_core.specs.declared.types.IrType.{IrType}
 use Rattle.ir_core.specs.declared.types.IrType.TheVariants.{Void, Int, Ptr, Array, Struct, Opaque, Pair}
 use Rattle.ir_core.specs.declared.operands.Operand.{Operand}
@@ -14,7 +14,7 @@ use Rattle.ir_core.specs.declared.ir_module.Module.{Module}
 use Rattle.ir_core.specs.NumberTypes.{type_of}
 use Rattle.ir_core.specs.Operations.{is_value_type, is_number_type}
 use Rattle.ir_core.specs.ResolvedBodies.{IsResolvedOperand}
-use Rattle.ir_check_types.specs.Operands.{is_same, has_its_type, is_typed, is_integer}
+use Rattle.ir_check_types.specs.Operands.{is_same, has_its_type, is_typed}
 use Rattle.ir_meaning.specs.Births.{Birth}
 use Rattle.ir_meaning.specs.Operands.{of_kind, constant_value, value_by, operand_value, with_integer, with_pointer, with_pair, with_value, with_named, single}
 use Rattle.ir_meaning.specs.State.{SourceOutcome}

@@ -1,7 +1,7 @@
 -- States of a run that are as they should be, and steps that lead from one to another.
 use Rattle.std.specs.Prelude.{◌≡◌, ℕ, ◌<◌, ◌^◌, List, [], ◌∷◌, length, slice_get, None, Some}
 use Rattle.hw_base.specs.declared.pointers.Obj.{Obj}
-use Rattle.hw_tags.specs.TaskRuns.{Goes, Stays, Starts, Finishes, Ends, Stuck, Next, Last, NoStep}
+use Rattle.hw_tags.specs.TaskRuns.{Goes, Stays, Starts, Finishes, Ends, Stuck}
 use Rattle.ir_core.specs.declared.ir_module.Module.{Module}
 use Rattle.ir_core.specs.Runnable.{IsRunnable}
 use Rattle.ir_check_types.specs.Rules.{type_fault}

@@ -1,3 +1,4 @@
 pub mod GoodFrames
 pub mod GoodWorlds
 pub mod KnownValues
+pub mod Laws

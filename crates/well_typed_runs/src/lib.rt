@@ -1,3 +1,7 @@
-//! Runs of accepted modules by the semantics of the source: values have the types of their registers, and no step is stuck. It has
-//! no code; its laws are about the definitions of `ir_meaning`.
+//! Runs of accepted modules by the semantics of the source are never stuck, and each register that holds a value holds one of its
+//! type. It has no code: its one call does nothing, and says this of the definitions of `ir_meaning`.
 #![tactic(auto)]
+
+mod laws;
+
+pub use laws::accepted_modules_run_well;
