@@ -141,6 +141,7 @@ module _ (m : Module) (s : SourceSeen) (accepted : IsAccepted m) (good : IsGoodS
       (record {
         births = good.births;
         grow = on.births-same m s good setting;
+        small = λ without small. small;
         frames = (
           record {
             f = f;

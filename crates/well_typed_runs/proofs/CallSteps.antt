@@ -3,7 +3,7 @@ use Rattle.std.proofs.Common.{◌≡◌, ℕ, zero, suc, ◌+◌, ◌-◌, ◌<�
 use Rattle.std.proofs.lemmas.Bool.Decides.{nat_tests}
 use Rattle.std.proofs.lemmas.List.{length-append, length-map, length-replicate}
 use Rattle.std.specs.Prelude.{option_and_then}
-use Rattle.hw_base.specs.declared.numbers.TheConstants.{MOST_FRAMES}
+use Rattle.hw_base.specs.declared.numbers.TheConstants.{MOST_FRAMES, MOST_SIZE}
 use Rattle.hw_base.specs.declared.pointers.Site.{Site}
 use Rattle.hw_tags.specs.TaskRuns.{Stuck}
 use Rattle.ir_core.specs.declared.faults.Fault.TheVariants.{BadType}
@@ -36,11 +36,11 @@ use Rattle.ir_meaning.specs.Values.{Value}
 use Rattle.ir_meaning.proofs.BirthChangeLaws.{change-only_grows}
 use Rattle.well_typed_runs.specs.KnownValues.{IsOfType, IsKnownValue, AreGoodBirths, HasValue}
 use Rattle.well_typed_runs.specs.GoodFrames.{IsAt, HasVariables, IsGoodFrame, Calls}
-use Rattle.well_typed_runs.specs.GoodWorlds.{IsAccepted, IsGoodSeen, IsGoodOutcome}
+use Rattle.well_typed_runs.specs.GoodWorlds.{IsAccepted, IsGoodSeen, IsGoodOutcome, AreSmall}
 use Rattle.well_typed_runs.proofs.Blocks.{all_at, block_at, get_at, get_below}
-use Rattle.well_typed_runs.proofs.KnownBirths.{births_born, value-grows}
+use Rattle.well_typed_runs.proofs.KnownBirths.{births_born, value-grows, AreSmallSizes, small_born}
 use Rattle.well_typed_runs.proofs.GoingOn as on
-use Rattle.well_typed_runs.proofs.Settings.{IsSetting, function_resolved, phis_good, frame-grows, frame-grows-inst, callers-grow}
+use Rattle.well_typed_runs.proofs.Settings.{IsSetting, function_resolved, phis_good, frame-grows, frame-grows-inst, callers-grow, function_runs}
 use Rattle.well_typed_runs.proofs.Values.{both, named_good, single_has}
 
 -- ---- the entry of a function
@@ -143,14 +143,21 @@ last-get : {A : Type 0} (xs : List A) (x : A) → slice_get (xs ++ x ∷ []) (le
 last-get [] x = refl
 last-get (y ∷ xs) x = last-get xs x
 
+-- the variables of a frame are small
+pub frame_sizes : (m : Module) (n : ℕ) (f : Function) → IsAccepted m → slice_get m.functions n ≡ Some f → AreSmallSizes f.allocas
+frame_sizes m n f accepted there k size at =
+    let small : size ≤ MOST_SIZE = all_at (λ (x : ℕ). x ≤ MOST_SIZE) f.allocas k size (function_runs m n f accepted there).variables at in
+    omega arith
+
 pub record IsEntered (m : Module) (earlier : List Birth) (sizes : List ℕ) (entry : Entry) : Type 0 where
   pub births : AreGoodBirths m entry.births
   pub grow : OnlyGrow earlier entry.births
+  pub small : AreSmallSizes sizes → AreSmall earlier → AreSmall entry.births
   pub variables : HasVariables entry.births sizes entry.birth
 
 pub entered_good : (m : Module) (births : List Birth) (func task : ℕ) (chain : List Site) (sizes : List ℕ) → AreGoodBirths m births → IsEntered m births sizes (entry_of births func task chain sizes)
 entered_good m births func task chain [] good =
-    record { births = good; grow = change-only_grows births births [] (same births); variables = refl }
+    record { births = good; grow = change-only_grows births births [] (same births); small = λ sizes small. small; variables = refl }
 entered_good m births func task chain (size ∷ sizes) good =
     let fresh : Birth = fresh_birth (Stack func) task chain (size ∷ sizes) in
     let change = bore births (Stack func) task chain (size ∷ sizes) in
@@ -158,6 +165,7 @@ entered_good m births func task chain (size ∷ sizes) good =
     record {
       births = births_born m births (Stack func) task chain (size ∷ sizes) good;
       grow = change-only_grows births (births ++ fresh ∷ []) _ change;
+      small = λ sizes_small small. small_born births (Stack func) task chain (size ∷ sizes) sizes_small small;
       variables = (
         λ k h.
             let (x, found) = fresh-there (size ∷ sizes) k h in
@@ -288,6 +296,7 @@ module _ (m : Module) (s : SourceSeen) (accepted : IsAccepted m) (good : IsGoodS
       (record {
         births = entered.births;
         grow = entered.grow;
+        small = λ without small. entered.small (frame_sizes m func callee accepted there) small;
         frames = (
           entry_good m entry.births callee func singles.values entry.birth (chain_of s) accepted there params
               (λ k v e. let zero_more : 0 + k ≡ k = omega arith in let two = rw zero_more at (singles.each k v e) in (two.0, value-grows s.shared.births entry.births v entered.grow two.1)) entered.variables,

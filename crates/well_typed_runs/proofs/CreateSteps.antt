@@ -31,9 +31,9 @@ use Rattle.well_typed_runs.specs.GoodWorlds.{IsAccepted, IsGoodSeen, IsGoodOutco
 use Rattle.well_typed_runs.proofs.Blocks.{get_at}
 use Rattle.well_typed_runs.proofs.Bytes.{number-known}
 use Rattle.well_typed_runs.proofs.CallSteps as calls
-use Rattle.well_typed_runs.proofs.CallSteps.{ArgumentsFit, entered_good, entry_good}
+use Rattle.well_typed_runs.proofs.CallSteps.{ArgumentsFit, entered_good, entry_good, frame_sizes}
 use Rattle.well_typed_runs.proofs.GoingOn as on
-use Rattle.well_typed_runs.proofs.KnownBirths.{births_written, value-grows}
+use Rattle.well_typed_runs.proofs.KnownBirths.{births_written, value-grows, small_written}
 use Rattle.well_typed_runs.proofs.LibrarySteps as library
 use Rattle.well_typed_runs.proofs.Settings.{IsSetting, frame-grows}
 use Rattle.well_typed_runs.proofs.Values.{pointer_good, value_good, named_good}
@@ -74,7 +74,10 @@ module _ (m : Module) (s : SourceSeen) (accepted : IsAccepted m) (good : IsGoodS
       change-only_grows entry.births later [] (wrote entry.births base off (number_bytes TASK_NUMBER_SIZE (length s.finished))) in (
         on.gives_under m s good setting (record s.shared { births = later }) (Int 32) (Integer 0) (telling entry.news) plain
             (births_written m entry.births base off (number_bytes TASK_NUMBER_SIZE (length s.finished)) entered.births (number-known entry.births TASK_NUMBER_SIZE (length s.finished)))
-            (grow_through s.shared.births entry.births later entered.grow written) given refl refl tt,
+            (grow_through s.shared.births entry.births later entered.grow written)
+            (λ without small.
+            small_written entry.births base off (number_bytes TASK_NUMBER_SIZE (length s.finished)) (entered.small (frame_sizes m func f accepted there) small))
+            given refl refl tt,
         frame-grows m entry.births later _ written
             (entry_good m entry.births f func (value ∷ []) entry.birth (chain_of s) accepted there (sym starts.one_parameter)
             (one_argument entry.births f value starts typed (value-grows s.shared.births entry.births value entered.grow known)) entered.variables),

@@ -60,6 +60,7 @@ module _ (m : Module) (next : Input) (s : SourceSeen) (accepted : IsAccepted m) 
 
   record IsLibraryCall (declare ty : ℕ) (args : List Placed) (start : Option StartArg) (d : Declare) : Type 0 where
     is : here.op ≡ op.CallLib declare ty args start
+    there : slice_get m.declares declare ≡ Some d
     resolved : IsResolvedOp m f (op.CallLib declare ty args start)
     result : is_same (type_of m ty) (type_of m d.result) ≡ true
     count : length args + started start ≡ length d.params
@@ -110,7 +111,7 @@ module _ (m : Module) (next : Input) (s : SourceSeen) (accepted : IsAccepted m) 
   plain_good declare ty args d h starts lib.Malloc e =
       library.malloc_good m s good setting (plain_call declare ty args None h.is) (values_of m s args) (has declare ty args d lib.Malloc h e refl 0 (Int 64) refl) (gives declare ty args None d lib.Malloc h e refl)
   plain_good declare ty args d h starts lib.Calloc e =
-      library.calloc_good m s good setting (plain_call declare ty args None h.is) (values_of m s args) (has declare ty args d lib.Calloc h e refl 0 (Int 64) refl)
+      library.calloc_good m s good setting (plain_call declare ty args None h.is) (values_of m s args) (λ without. without declare d h.there e) (has declare ty args d lib.Calloc h e refl 0 (Int 64) refl)
       (has declare ty args d lib.Calloc h e refl 1 (Int 64) refl) (gives declare ty args None d lib.Calloc h e refl)
   plain_good declare ty args d h starts lib.Free e =
       library.free_good m s good setting (plain_call declare ty args None h.is) (values_of m s args) (has declare ty args d lib.Free h e refl 0 Ptr refl) (gives_none declare ty args None d lib.Free h e refl)
@@ -213,6 +214,7 @@ module _ (m : Module) (next : Input) (s : SourceSeen) (accepted : IsAccepted m) 
       (holds (length args + started start == length d.params) BadType here.place (none_first (count_of_arguments_fault here.place (length args + started start) (length d.params)) _ one)) in
       let call : IsLibraryCall declare ty args start d = record {
         is = is;
+        there = there;
         resolved = resolved;
         result = holds (is_same (type_of m ty) (type_of m d.result)) BadType here.place (none_first (result_type_fault m here.place ty d.result) _ fault);
         count = count;

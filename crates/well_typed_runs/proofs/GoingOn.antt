@@ -20,7 +20,7 @@ use Rattle.ir_meaning.specs.Values.{Value}
 use Rattle.ir_meaning.proofs.BirthChangeLaws.{change-only_grows}
 use Rattle.well_typed_runs.specs.KnownValues.{IsOfType, IsKnownValue, AreGoodBirths, HasValue}
 use Rattle.well_typed_runs.specs.GoodFrames.{IsGoodFrame}
-use Rattle.well_typed_runs.specs.GoodWorlds.{IsGoodSeen, IsGoodOutcome}
+use Rattle.well_typed_runs.specs.GoodWorlds.{IsGoodSeen, IsGoodOutcome, AreSmall, IsWithoutCalloc}
 use Rattle.well_typed_runs.proofs.Blocks.{next_at}
 use Rattle.well_typed_runs.proofs.KnownBirths.{variables-grow}
 use Rattle.well_typed_runs.proofs.Registers.{FitsResult, with_result-good, no_result-good}
@@ -65,14 +65,20 @@ module _ (m : Module) (s : SourceSeen) (good : IsGoodSeen m s) (setting : IsSett
 
   -- ---- steps
 
+  -- without `calloc`, small objects stay small
+  abbrev pub KeepsSmall : List Birth → Type 0
+  KeepsSmall later = IsWithoutCalloc m → AreSmall there → AreSmall later
+
   -- with a result, under other births
   pub gives_under : (shared : SourceShared) (type : IrType) (value : Value) (report : SourceReport) → is_terminator here.op ≡ false → AreGoodBirths m shared.births
-      → OnlyGrow there shared.births → given_type m here.op ≡ type → is_value_type type ≡ true → IsOfType type value → IsKnownValue shared.births value
+      → OnlyGrow there shared.births → KeepsSmall shared.births → given_type m here.op ≡ type → is_value_type type ≡ true → IsOfType type value
+      → IsKnownValue shared.births value
       → IsGoodOutcome m s (gives_with (record s { shared = shared }) here.result value report)
-  gives_under shared type value report plain births grow given v typed known =
+  gives_under shared type value report plain births grow small given v typed known =
       record {
         births = births;
         grow = grow;
+        small = small;
         frames = (
           frame_with shared.births value plain grow
               (fits m good.frame.f s.frame.inst here shared.births value setting good.frame.at.inside.there
@@ -83,11 +89,12 @@ module _ (m : Module) (s : SourceSeen) (good : IsGoodSeen m s) (setting : IsSett
 
   -- without a result, under other births
   pub goes_under : (shared : SourceShared) (report : SourceReport) → is_terminator here.op ≡ false → AreGoodBirths m shared.births → OnlyGrow there shared.births
-      → is_value_type (given_type m here.op) ≡ false → IsGoodOutcome m s (goes_on (record s { shared = shared }) report)
-  goes_under shared report plain births grow none =
+      → KeepsSmall shared.births → is_value_type (given_type m here.op) ≡ false → IsGoodOutcome m s (goes_on (record s { shared = shared }) report)
+  goes_under shared report plain births grow small none =
       record {
         births = births;
         grow = grow;
+        small = small;
         frames = (
           frame_without shared.births plain grow (no_result m good.frame.f here setting none),
           callers-grow m there shared.births s.task s.frame.func s.callers grow good.callers,
@@ -100,10 +107,10 @@ module _ (m : Module) (s : SourceSeen) (good : IsGoodSeen m s) (setting : IsSett
   -- with a result, when nothing else happens
   pub gives_good : (type : IrType) (value : Value) (report : SourceReport) → is_terminator here.op ≡ false → given_type m here.op ≡ type → is_value_type type ≡ true
       → IsOfType type value → IsKnownValue there value → IsGoodOutcome m s (gives_with s here.result value report)
-  gives_good type value report plain given v typed known = gives_under s.shared type value report plain good.births births-same given v typed known
+  gives_good type value report plain given v typed known = gives_under s.shared type value report plain good.births births-same (λ without small. small) given v typed known
 
   pub goes_good : (report : SourceReport) → is_terminator here.op ≡ false → is_value_type (given_type m here.op) ≡ false → IsGoodOutcome m s (goes_on s report)
-  goes_good report plain none = goes_under s.shared report plain good.births births-same none
+  goes_good report plain none = goes_under s.shared report plain good.births births-same (λ without small. small) none
 
   -- ---- operands of an operation
 

@@ -1,5 +1,5 @@
 -- What was born stays born, and births stay as they should be under writes, births and deaths.
-use Rattle.std.proofs.Common.{◌≡◌, ◌⊎◌, ℕ, zero, suc, ◌+◌, List, [], ◌∷◌, ◌++◌, map, replicate, slice_get, slice_set, Option, Some, None, option_map, Bool, true, false, if◌then◌else◌, inl, inr, refl, sym, ◌∙◌, ap, subst}
+use Rattle.std.proofs.Common.{◌≡◌, ◌⊎◌, ℕ, zero, suc, ◌+◌, List, [], ◌∷◌, ◌++◌, map, replicate, slice_get, slice_set, Option, Some, None, option_map, Bool, true, false, if◌then◌else◌, inl, inr, refl, sym, ◌∙◌, ap, subst, ◌^◌, ◌<◌, arith}
 use Rattle.std.proofs.lemmas.Option.{slice_get-map}
 use Rattle.std.proofs.lemmas.Bool.{cases_eq}
 use Rattle.hw_base.specs.declared.pointers.Base.{Base}
@@ -13,6 +13,7 @@ use Rattle.ir_meaning.specs.State.{News}
 use Rattle.ir_meaning.specs.Values.{Value, Integer, Address, IntegerAndBit, SourceByte, Data, Piece}
 use Rattle.ir_meaning.proofs.BirthChangeLaws.{change-only_grows, change-has_bytes, pushed-get}
 use Rattle.well_typed_runs.specs.KnownValues.{IsBorn, IsKnownBase, IsKnownValue, IsKnownByte, AreKnownBytes, AreGoodBirths}
+use Rattle.well_typed_runs.specs.GoodWorlds.{AreSmall}
 use Rattle.well_typed_runs.specs.GoodFrames.{HasVariables}
 use Rattle.well_typed_runs.proofs.Registers.{get-set_here, get-set_other}
 
@@ -243,3 +244,67 @@ births_ended m births n task chain good other =
     let (old, at, is) = ended-get task chain birth.objects k x e in
     subst (λ (y : SourceObject). IsGoodObject births birth.region y) (sym is)
     (ended-good births birth.region task chain old (other birth there) (objects_of m births good n k birth old there at)))))
+
+-- ---- small objects
+
+abbrev IsSmallObject : Region → SourceObject → Type 0
+IsSmallObject region x = x.size < 2 ^ 64
+
+small_objects : (births : List Birth) → AreSmall births → AllObjects IsSmallObject births
+small_objects births small n k birth x there e = small (record { birth = n; index = k }) x (ap (λ (b : Option Birth). object_in b k) there ∙ e)
+
+objects_small : (births : List Birth) → AllObjects IsSmallObject births → AreSmall births
+objects_small births all o x e = by_birth (slice_get births o.birth) refl e
+  where
+    by_birth : (found : Option Birth) → slice_get births o.birth ≡ found → object_in found o.index ≡ Some x → x.size < 2 ^ 64
+    by_birth None there h = absurd cc
+    by_birth (Some birth) there h = all o.birth o.index birth x there h
+
+size-written : (off : ℕ) (new : List SourceByte) (x : SourceObject) → (written_object off new x).size ≡ x.size
+size-written off new x =
+    elim (is_living x.life) as (λ (alive : Bool). (if alive then record x { bytes = written_from x.bytes off new } else x).size ≡ x.size) [ true ↦ refl | false ↦ refl ]
+
+size-ended : (task : ℕ) (chain : List Site) (x : SourceObject) → (ended_object task chain x).size ≡ x.size
+size-ended task chain x =
+    elim (is_living x.life) as (λ (alive : Bool). (if alive then record x { life = Dead task chain; bytes = [] } else x).size ≡ x.size) [ true ↦ refl | false ↦ refl ]
+
+smaller : (a b : ℕ) → a ≡ b → b < 2 ^ 64 → a < 2 ^ 64
+smaller a b e h = omega arith
+
+pub small_written : (births : List Birth) (base : Base) (off : ℕ) (new : List SourceByte) → AreSmall births → AreSmall (put_bytes births base off new)
+small_written births Null off new small = small
+small_written births (Object o) off new small =
+    objects_small (put_bytes births (Object o) off new)
+    (changed-objects IsSmallObject (written_birth o.index off new) births o.birth (small_objects births small) (λ birth there k x e.
+    let (old, at, kind) = changed-cases (written_object off new) birth.objects o.index k x e in
+    let was : old.size < 2 ^ 64 = small_objects births small o.birth k birth old there at in
+    elim kind [
+      | inl same ↦ smaller x.size old.size (ap (λ (y : SourceObject). y.size) same) was
+      | inr (here, is) ↦ smaller x.size old.size (ap (λ (y : SourceObject). y.size) is ∙ size-written off new old) was
+    ]))
+
+pub small_ended : (births : List Birth) (n task : ℕ) (chain : List Site) → AreSmall births → AreSmall (after_death births n task chain)
+small_ended births n task chain small =
+    objects_small (after_death births n task chain)
+    (changed-objects IsSmallObject (ended_birth task chain) births n (small_objects births small) (λ birth there k x e.
+    let (old, at, is) = ended-get task chain birth.objects k x e in
+    smaller x.size old.size (ap (λ (y : SourceObject). y.size) is ∙ size-ended task chain old) (small_objects births small n k birth old there at)))
+
+-- sizes below 2^64
+abbrev pub AreSmallSizes : List ℕ → Type 0
+AreSmallSizes sizes = (k size : ℕ) → slice_get sizes k ≡ Some size → size < 2 ^ 64
+
+fresh_small : (sizes : List ℕ) (k : ℕ) (x : SourceObject) → AreSmallSizes sizes → slice_get (map fresh_object sizes) k ≡ Some x → x.size < 2 ^ 64
+fresh_small [] k x small e = absurd cc
+fresh_small (size ∷ sizes) zero x small e = let is : fresh_object size ≡ x = cc in smaller x.size size (ap (λ (y : SourceObject). y.size) (sym is)) (small 0 size refl)
+fresh_small (size ∷ sizes) (suc k) x small e = fresh_small sizes k x (λ i n at. small (suc i) n at) e
+
+pub small_born : (births : List Birth) (region : Region) (task : ℕ) (chain : List Site) (sizes : List ℕ) → AreSmallSizes sizes → AreSmall births
+    → AreSmall (births ++ fresh_birth region task chain sizes ∷ [])
+small_born births region task chain sizes sizes_small small =
+    objects_small (births ++ fresh_birth region task chain sizes ∷ [])
+    (pushed-objects IsSmallObject births (fresh_birth region task chain sizes) (small_objects births small) (λ k x e. fresh_small sizes k x sizes_small e))
+
+pub one_size : (size : ℕ) → size < 2 ^ 64 → AreSmallSizes (size ∷ [])
+one_size size h zero n e = let is : size ≡ n = cc in smaller n size (sym is) h
+one_size size h (suc k) n e = absurd cc

@@ -1,5 +1,5 @@
 -- Calls of declared functions aren't stuck.
-use Rattle.std.proofs.Common.{◌≡◌, ◌≢◌, ℕ, zero, suc, ◌+◌, ◌*◌, ◌%◌, ◌^◌, List, [], ◌∷◌, ◌++◌, length, take, replicate, slice_get, Option, Some, None, Bool, true, false, ◌==◌, if◌then◌else◌, refl, sym, ◌∙◌, ap, subst, arith}
+use Rattle.std.proofs.Common.{◌≡◌, ◌≢◌, ℕ, zero, suc, ◌+◌, ◌*◌, ◌%◌, ◌^◌, List, [], ◌∷◌, ◌++◌, length, take, replicate, slice_get, Option, Some, None, Bool, true, false, ◌==◌, if◌then◌else◌, refl, sym, ◌∙◌, ap, subst, arith, ◌<◌}
 use Rattle.hw_base.specs.declared.accesses.Access.{Access}
 use Rattle.hw_base.specs.declared.accesses.Access.TheVariants.{Read, Write, Free}
 use Rattle.hw_base.specs.declared.endings.Input.{Input}
@@ -37,15 +37,15 @@ use Rattle.ir_meaning.specs.TextFunctions.{on_whole, strlen_step, puts_step, put
 use Rattle.ir_meaning.specs.Values.{Value, Integer, Address, IntegerAndBit, Data, SourceByte}
 use Rattle.ir_meaning.proofs.BirthChangeLaws.{change-only_grows}
 use Rattle.well_typed_runs.specs.KnownValues.{IsBorn, IsKnownBase, IsKnownByte, AreKnownBytes, AreGoodBirths, HasValue}
-use Rattle.well_typed_runs.specs.GoodWorlds.{IsGoodSeen, IsGoodOutcome, AreSmall}
+use Rattle.well_typed_runs.specs.GoodWorlds.{IsGoodSeen, IsGoodOutcome, AreSmall, IsWithoutCalloc}
 use Rattle.well_typed_runs.proofs.Accesses.{access_good, answer_good, read_integer_good}
 use Rattle.well_typed_runs.proofs.Bytes.{read-known, number-known, object-known, taken-known}
-use Rattle.well_typed_runs.proofs.KnownBirths.{births_written, births_born, births_ended, bytes-grow, born-grows, base-grows}
+use Rattle.well_typed_runs.proofs.KnownBirths.{births_written, births_born, births_ended, bytes-grow, born-grows, base-grows, small_born, small_written, small_ended, one_size}
 use Rattle.well_typed_runs.proofs.MemorySteps as memory
 use Rattle.well_typed_runs.proofs.GoingOn as on
 use Rattle.well_typed_runs.proofs.Settings.{IsSetting}
 use Rattle.well_typed_runs.proofs.Strings.{IsAnswered, string_answered, string_ends}
-use Rattle.well_typed_runs.proofs.Values.{integer_good, pointer_good}
+use Rattle.well_typed_runs.proofs.Values.{integer_good, pointer_good, bounded_good}
 
 -- ---- frees
 
@@ -108,29 +108,32 @@ module _ (m : Module) (s : SourceSeen) (good : IsGoodSeen m s) (setting : IsSett
       last-get [] x = refl
       last-get (y ∷ xs) x = last-get xs x
 
-  allocated_good : (size : ℕ) → given_type m here.op ≡ Ptr → IsGoodOutcome m s (allocated s here.result size)
-  allocated_good size given =
+  allocated_good : (size : ℕ) → (IsWithoutCalloc m → size < 2 ^ 64) → given_type m here.op ≡ Ptr → IsGoodOutcome m s (allocated s here.result size)
+  allocated_good size below given =
       on.gives_under m s good setting (record s.shared { births = births_with s size }) Ptr (block_pointer (length there)) (telling (block_news s size ∷ [])) plain
       (births_born m there Heap s.task (chain_of s) (size ∷ []) good.births)
-      (change-only_grows there (births_with s size) _ (bore there Heap s.task (chain_of s) (size ∷ []))) given refl refl (block_born size)
+      (change-only_grows there (births_with s size) _ (bore there Heap s.task (chain_of s) (size ∷ [])))
+      (λ without small. small_born there Heap s.task (chain_of s) (size ∷ []) (one_size size (below without)) small) given refl refl (block_born size)
 
   pub malloc_good : (values : List (Option Value)) → HasValue there (Int 64) (argument values 0) → given_type m here.op ≡ Ptr
       → IsGoodOutcome m s (on_accesses s values [] (malloc_step s here.result values))
   unfolding on_accesses malloc_step
-  malloc_good values n given = integer_good is_good there 64 64 (argument values 0) _ n (λ size. allocated_good size given)
+  malloc_good values n given = bounded_good is_good there 64 64 (argument values 0) _ n (λ size below. allocated_good size (λ without. below) given)
 
-  pub calloc_good : (values : List (Option Value)) → HasValue there (Int 64) (argument values 0) → HasValue there (Int 64) (argument values 1) → given_type m here.op ≡ Ptr
+  pub calloc_good : (values : List (Option Value)) → (IsWithoutCalloc m → ⊥) → HasValue there (Int 64) (argument values 0) → HasValue there (Int 64) (argument values 1)
+      → given_type m here.op ≡ Ptr
       → IsGoodOutcome m s (on_accesses s values [] (calloc_step s here.result values))
   unfolding on_accesses calloc_step
-  calloc_good values n k given =
-      integer_good is_good there 64 64 (argument values 0) _ n (λ size. integer_good is_good there 64 64 (argument values 1) _ k (λ count. allocated_good (size * count) given))
+  calloc_good values with_calloc n k given =
+      integer_good is_good there 64 64 (argument values 0) _ n (λ size. integer_good is_good there 64 64 (argument values 1) _ k (λ count. allocated_good (size * count) (λ without. absurd (with_calloc without)) given))
 
   freed_good : (base : Base) (off : ℕ) → access_answer there Free base off 0 1 ≡ Fine → is_value_type (given_type m here.op) ≡ false → IsGoodOutcome m s (freed s base)
   freed_good Null off fine given = on.goes_good m s good setting nothing_happened plain given
   freed_good (Object o) off fine given =
       on.goes_under m s good setting (record s.shared { births = after_death there o.birth s.task (chain_of s) }) (telling (death_of s o.birth ∷ [])) plain
       (births_ended m there o.birth s.task (chain_of s) good.births (freed-region there o off fine))
-      (change-only_grows there (after_death there o.birth s.task (chain_of s)) _ (died there o.birth s.task (chain_of s))) given
+      (change-only_grows there (after_death there o.birth s.task (chain_of s)) _ (died there o.birth s.task (chain_of s)))
+      (λ without small. small_ended there o.birth s.task (chain_of s) small) given
 
   free_with : (found : Option Value) → HasValue there Ptr found → is_value_type (given_type m here.op) ≡ false
       → IsGoodOutcome m s (with_pointer found (λ base off. on_access s Free base off 0 1 (with_pointer found (λ b o. freed s b))))
@@ -146,9 +149,9 @@ module _ (m : Module) (s : SourceSeen) (good : IsGoodSeen m s) (setting : IsSett
   free_good values h given = free_with (argument values 0) h given
 
   -- a block with a new size
-  resized_good : (base : Base) (off size : ℕ) → IsKnownBase there base → access_answer there Free base off 0 1 ≡ Fine → given_type m here.op ≡ Ptr → IsGoodOutcome m s (resized s here.result base size)
-  resized_good Null off size known fine given = allocated_good size given
-  resized_good (Object o) off size known fine given =
+  resized_good : (base : Base) (off size : ℕ) → size < 2 ^ 64 → IsKnownBase there base → access_answer there Free base off 0 1 ≡ Fine → given_type m here.op ≡ Ptr → IsGoodOutcome m s (resized s here.result base size)
+  resized_good Null off size below known fine given = allocated_good size (λ without. below) given
+  resized_good (Object o) off size below known fine given =
       let one : List Birth = births_with s size in
       let bytes : List SourceByte = take size (bytes_in (get_object there o)) in
       let two : List Birth = births_copied s o size in
@@ -164,7 +167,11 @@ module _ (m : Module) (s : SourceSeen) (good : IsGoodSeen m s) (setting : IsSett
       let grow_three : OnlyGrow there three = change-only_grows there three _ (both there two three _ _ (both there one two _ _ change_one change_two) change_three) in
       let good_three : AreGoodBirths m three = births_ended m two o.birth s.task (chain_of s) good_two (λ birth at global. by_birth (slice_get there o.birth) refl grow_two birth at global) in
       let rest : OnlyGrow one three = change-only_grows one three _ (both one two three _ _ change_two change_three) in
-      on.gives_under m s good setting (record s.shared { births = three }) Ptr (block_pointer (length there)) (telling (block_news s size ∷ death_of s o.birth ∷ [])) plain good_three grow_three given refl refl
+      on.gives_under m s good setting (record s.shared { births = three }) Ptr (block_pointer (length there)) (telling (block_news s size ∷ death_of s o.birth ∷ [])) plain good_three grow_three
+      (λ without small.
+      small_ended two o.birth s.task (chain_of s)
+      (small_written one (Object (block_of (length there))) 0 bytes (small_born there Heap s.task (chain_of s) (size ∷ []) (one_size size below) small)))
+      given refl refl
       (born-grows one three (block_of (length there)) rest (block_born size))
     where
       by_birth : (found : Option Birth) → slice_get there o.birth ≡ found → OnlyGrow there (births_copied s o size) → (birth : Birth) → slice_get (births_copied s o size) o.birth ≡ Some birth
@@ -185,7 +192,7 @@ module _ (m : Module) (s : SourceSeen) (good : IsGoodSeen m s) (setting : IsSett
   realloc_with (Some (Integer n)) size h k given = let e = h.0 in absurd cc
   realloc_with (Some (Address base off)) size h k given =
       access_good m s Free base (off % 2 ^ 64) 0 1 _ good.births h.1 (λ fine.
-      integer_good is_good there 64 64 size _ k (λ n. resized_good base (off % 2 ^ 64) n h.1 fine given))
+      bounded_good is_good there 64 64 size _ k (λ n below. resized_good base (off % 2 ^ 64) n below h.1 fine given))
   realloc_with (Some (IntegerAndBit n bit)) size h k given = let e = h.0 in absurd cc
 
   pub realloc_good : (values : List (Option Value)) → HasValue there Ptr (argument values 0) → HasValue there (Int 64) (argument values 1) → given_type m here.op ≡ Ptr
@@ -305,7 +312,8 @@ module _ (m : Module) (s : SourceSeen) (good : IsGoodSeen m s) (setting : IsSett
   input_good : (shared : SourceShared) (n : ℕ) → shared.births ≡ there → given_type m here.op ≡ Int 32 → IsGoodOutcome m s (gives (record s { shared = shared }) here.result (Integer n))
   input_good shared n same given =
       on.gives_under m s good setting shared (Int 32) (Integer n) nothing_happened plain (subst (λ (b : List Birth). AreGoodBirths m b) (sym same) good.births)
-      (subst (λ (b : List Birth). OnlyGrow there b) (sym same) (on.births-same m s good setting)) given refl refl tt
+      (subst (λ (b : List Birth). OnlyGrow there b) (sym same) (on.births-same m s good setting))
+      (λ without small. subst (λ (b : List Birth). AreSmall b) (sym same) small) given refl refl tt
 
   pub getchar_good : (next : Input) (values : List (Option Value)) → given_type m here.op ≡ Int 32 → IsGoodOutcome m s (on_accesses s values [] (getchar_step next s here.result))
   unfolding on_accesses getchar_step

@@ -35,7 +35,7 @@ use Rattle.well_typed_runs.specs.KnownValues.{AreKnownBytes, HasValue}
 use Rattle.well_typed_runs.specs.GoodWorlds.{IsGoodSeen, IsGoodOutcome}
 use Rattle.well_typed_runs.proofs.Accesses.{access_good, read_integer_good}
 use Rattle.well_typed_runs.proofs.Bytes.{read-known, pointer-has, number-known, pointer-known}
-use Rattle.well_typed_runs.proofs.KnownBirths.{births_written}
+use Rattle.well_typed_runs.proofs.KnownBirths.{births_written, small_written}
 use Rattle.well_typed_runs.proofs.Settings.{IsSetting}
 use Rattle.well_typed_runs.proofs.GoingOn as on
 use Rattle.well_typed_runs.proofs.Values.{both, integer_good, pointer_good, same_type}
@@ -56,7 +56,7 @@ module _ (m : Module) (s : SourceSeen) (good : IsGoodSeen m s) (setting : IsSett
       → AreKnownBytes s.shared.births bytes → IsGoodOutcome m s (goes_on (stored s base off bytes) nothing_happened)
   goes_written base off bytes plain none known =
       on.goes_under m s good setting (record s.shared { births = put_bytes s.shared.births base off bytes }) nothing_happened plain
-      (births_written m s.shared.births base off bytes good.births known) (write_grows base off bytes) none
+      (births_written m s.shared.births base off bytes good.births known) (write_grows base off bytes) (λ without small. small_written s.shared.births base off bytes small) none
 
   -- an integer, or a pair, is the result after a write
   pub gives_written : (base : Base) (off : ℕ) (bytes : List SourceByte) (type : IrType) (value : Value) → is_terminator here.op ≡ false → given_type m here.op ≡ type
@@ -64,7 +64,7 @@ module _ (m : Module) (s : SourceSeen) (good : IsGoodSeen m s) (setting : IsSett
       → IsGoodOutcome m s (gives (stored s base off bytes) here.result value)
   gives_written base off bytes type value plain given known has v =
       on.gives_under m s good setting (record s.shared { births = put_bytes s.shared.births base off bytes }) type value nothing_happened plain
-      (births_written m s.shared.births base off bytes good.births known) (write_grows base off bytes) given v has.0 has.1
+      (births_written m s.shared.births base off bytes good.births known) (write_grows base off bytes) (λ without small. small_written s.shared.births base off bytes small) given v has.0 has.1
 
   -- ---- loads
 

@@ -29,8 +29,8 @@ use Rattle.ir_meaning.specs.Values.{Value}
 use Rattle.ir_meaning.proofs.BirthChangeLaws.{change-only_grows}
 use Rattle.well_typed_runs.specs.KnownValues.{IsOfType, IsKnownValue, AreGoodBirths, HasValue}
 use Rattle.well_typed_runs.specs.GoodFrames.{HasVariables, IsGoodFrame, IsGoodCaller, AreGoodCallers, Calls}
-use Rattle.well_typed_runs.specs.GoodWorlds.{IsAccepted, IsGoodSeen, IsGoodOutcome}
-use Rattle.well_typed_runs.proofs.KnownBirths.{births_ended, value-grows}
+use Rattle.well_typed_runs.specs.GoodWorlds.{IsAccepted, IsGoodSeen, IsGoodOutcome, AreSmall}
+use Rattle.well_typed_runs.proofs.KnownBirths.{births_ended, value-grows, small_ended}
 use Rattle.well_typed_runs.proofs.GoingOn as on
 use Rattle.well_typed_runs.proofs.Settings.{IsSetting, setting_of, no_result, fits, callers-grow, number_is_value}
 use Rattle.well_typed_runs.proofs.Values.{integer_good, named_good, single_has, same_type}
@@ -82,6 +82,10 @@ ended_births m s sizes (Some n) good (born, (birth, there, other)) =
 ended_grow : (s : SourceSeen) (birth : Option ℕ) → OnlyGrow s.shared.births (frame_ended s birth).births
 ended_grow s None = change-only_grows s.shared.births s.shared.births [] (same s.shared.births)
 ended_grow s (Some n) = change-only_grows s.shared.births (after_death s.shared.births n s.task (chain_of s)) _ (died s.shared.births n s.task (chain_of s))
+
+ended_small : (s : SourceSeen) (birth : Option ℕ) → AreSmall s.shared.births → AreSmall (frame_ended s birth).births
+ended_small s None small = small
+ended_small s (Some n) small = small_ended s.shared.births n s.task (chain_of s) small
 
 -- a returned value, if there is one, is of the type of the function's result
 abbrev IsReturned : Module → List Birth → Function → Option Value → Type 0
@@ -166,7 +170,7 @@ module _ (m : Module) (s : SourceSeen) (accepted : IsAccepted m) (good : IsGoodS
 
   last_good : (value : Option Value) (task : ℕ) → s.task ≡ task → s.callers ≡ [] → IsReturned m s.shared.births good.frame.f value → IsGoodOutcome m s (last_return s value task)
   last_good value (suc task) is none returned =
-      record { births = births_after_end; grow = grow_after; frames = λ zero_task. let e : 0 ≡ suc task = sym zero_task ∙ is in absurd cc }
+      record { births = births_after_end; grow = grow_after; small = λ without small. ended_small s s.frame.birth small; frames = λ zero_task. let e : 0 ≡ suc task = sym zero_task ∙ is in absurd cc }
   last_good value zero is none returned = by_value value returned
     where
       main : type_of m good.frame.f.result ≡ Int 32
@@ -185,6 +189,7 @@ module _ (m : Module) (s : SourceSeen) (accepted : IsAccepted m) (good : IsGoodS
       record {
         births = births_after_end;
         grow = grow_after;
+        small = λ without small. ended_small s s.frame.birth small;
         frames = (
           returned_frame caller callers all.0 all.1 value returned,
           subst (λ (func : ℕ). AreGoodCallers m after s.task func callers) (sym (same_function caller (call_result m caller) value))

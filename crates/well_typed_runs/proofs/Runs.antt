@@ -9,11 +9,11 @@ use Rattle.ir_meaning.specs.Runs.{source_run_from, source_run}
 use Rattle.ir_meaning.specs.Start.{source_start}
 use Rattle.ir_meaning.specs.State.{SourceFrame, SourceRun, SourceWorldStep}
 use Rattle.well_typed_runs.specs.GoodFrames.{IsGoodFrame, AreGoodCallers, IsGoodTask}
-use Rattle.well_typed_runs.specs.GoodWorlds.{IsAccepted}
+use Rattle.well_typed_runs.specs.GoodWorlds.{IsAccepted, IsWithoutCalloc}
 use Rattle.well_typed_runs.specs.KnownValues.{IsOfType}
-use Rattle.well_typed_runs.specs.Laws.{StaysSmall, RunsAreNeverStuck, StatesAreGood, AreTyped, RegistersAreTyped}
-use Rattle.well_typed_runs.proofs.Starts.{start_good}
-use Rattle.well_typed_runs.proofs.Worlds.{IsGoodRun, after_good, run_good}
+use Rattle.well_typed_runs.specs.Laws.{StaysSmall, RunsAreNeverStuck, StatesAreGood, AreTyped, RegistersAreTyped, WithoutCallocStaysSmall}
+use Rattle.well_typed_runs.proofs.Starts.{start_good, start_small}
+use Rattle.well_typed_runs.proofs.Worlds.{IsGoodRun, after_good, run_good, IsSmallRun, small_after, small_run}
 
 whole_run : (m : Module) (input : List ℕ) (turns : ℕ → ℕ) (bound : ℕ) → IsAccepted m → StaysSmall m input turns bound → IsGoodRun m (source_run m input turns bound)
 unfolding source_run
@@ -52,3 +52,12 @@ pub registers_are_typed : RegistersAreTyped
 registers_are_typed m input turns bound w reports accepted small e task depth frames frame at found =
     let good = states_are_good m input turns bound w reports accepted small e in
     frames_typed m w.shared.births task frames (good.tasks task frames at) depth frame found
+
+small_whole : (m : Module) (input : List ℕ) (turns : ℕ → ℕ) (bound : ℕ) → IsAccepted m → IsWithoutCalloc m → IsSmallRun m (source_run m input turns bound)
+unfolding source_run
+small_whole m input turns bound accepted without =
+    small_after m (source_run_from m input turns bound) (source_start m) (start_good m accepted) (λ w report is good.
+    small_run m input turns bound w accepted without good (start_small m w report accepted is))
+
+pub without_calloc : WithoutCallocStaysSmall
+without_calloc m input turns bound accepted without n w reports below e = (subst (IsSmallRun m) e (small_whole m input turns n accepted without)).1

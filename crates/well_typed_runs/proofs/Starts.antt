@@ -1,5 +1,5 @@
 -- The start of a run of an accepted module is as it should be.
-use Rattle.std.proofs.Common.{◌≡◌, ◌⊎◌, inl, inr, ℕ, zero, suc, ◌<◌, List, [], ◌∷◌, length, map, replicate, slice_get, slice_index, Option, Some, true, refl, sym, ◌∙◌, subst, arith}
+use Rattle.std.proofs.Common.{◌≡◌, ◌⊎◌, inl, inr, ℕ, zero, suc, ◌<◌, List, [], ◌∷◌, length, map, replicate, slice_get, slice_index, Option, Some, true, refl, sym, ◌∙◌, subst, arith, ◌^◌, ◌+◌, min, ap}
 use Rattle.std.proofs.lemmas.List.{length-replicate}
 use Rattle.std.specs.List.{All}
 use Rattle.hw_base.specs.declared.pointers.Base.TheVariants.{Null as NullBase, Object}
@@ -12,7 +12,7 @@ use Rattle.ir_core.specs.declared.operands.Operand.TheVariants.{Reg, Int as Lite
 use Rattle.ir_core.specs.declared.operands.Part.{Part}
 use Rattle.ir_core.specs.declared.types.IrType.{IrType}
 use Rattle.ir_core.specs.declared.types.IrType.TheVariants.{Int, Ptr}
-use Rattle.ir_core.specs.Layout.{alloc_size_of}
+use Rattle.ir_core.specs.Layout.{alloc_size_of, layout_at, layout_size, capped, exact_layouts}
 use Rattle.ir_core.specs.NumberTypes.{type_of, alloc_size}
 use Rattle.ir_core.specs.Resolved.{IsPartWithin, IsPieceOf, IsResolvedGlobal}
 use Rattle.ir_core.specs.ResolvedBodies.{IsMain}
@@ -21,17 +21,20 @@ use Rattle.ir_meaning.specs.BirthChanges.{HasItsBytes}
 use Rattle.ir_meaning.specs.Births.{Birth, SourceObject, get_object, is_living, written_from}
 use Rattle.ir_meaning.specs.CallSteps.{Entry, entry_of, entry_frame}
 use Rattle.ir_meaning.specs.Start.{part_bytes, with_parts, global_object, global_births, main_arguments, start_with, source_start}
-use Rattle.ir_meaning.specs.State.{SourceFrame}
+use Rattle.ir_meaning.specs.State.{SourceFrame, SourceReport, SourceWorld, SourceWorldStep}
 use Rattle.ir_meaning.specs.Values.{Value, Integer, Address, SourceByte, Data}
 use Rattle.ir_meaning.proofs.BirthChangeLaws.{length-written_from}
 use Rattle.well_typed_runs.specs.GoodFrames.{IsGoodFrame, IsGoodTask}
-use Rattle.well_typed_runs.specs.GoodWorlds.{IsAccepted}
+use Rattle.well_typed_runs.specs.GoodWorlds.{IsAccepted, AreSmall}
 use Rattle.well_typed_runs.specs.KnownValues.{IsBorn, IsOfType, IsKnownValue, AreKnownBytes, AreGoodBirths}
 use Rattle.well_typed_runs.proofs.Blocks.{all_at}
 use Rattle.well_typed_runs.proofs.Bytes.{number-known, pointer-known}
-use Rattle.well_typed_runs.proofs.CallSteps.{ArgumentsFit, entered_good, entry_good, mapped_get}
+use Rattle.well_typed_runs.proofs.CallSteps.{ArgumentsFit, entered_good, entry_good, mapped_get, frame_sizes}
 use Rattle.well_typed_runs.proofs.KnownBirths.{written-known, zeros-known}
 use Rattle.well_typed_runs.proofs.Worlds.{IsGoodWorldStep}
+use Rattle.ir_core.specs.declared.types.TypeLayout.{TypeLayout}
+use Rattle.ir_core.specs.declared.types.TypeLayout.TheVariants.{Known, NoSize, Loop}
+use Rattle.hw_tags.specs.TaskRuns.{Next, Last, NoStep}
 
 -- ---- the global variables
 
@@ -160,3 +163,48 @@ start_good m accepted =
             let is : (entry_frame f m.main (main_arguments f.params) entry.birth [] ∷ []) ≡ frames = cc in
             subst (λ (fs : List SourceFrame). IsGoodTask m entry.births 0 fs) is (frame, λ task. refl)
         by_task f entry frame (suc k) frames e = absurd cc
+
+-- ---- the sizes of the global variables
+
+capped_small : (layout : TypeLayout) → layout_size (capped layout) < 2 ^ 64
+capped_small (Known size align) = small_min size
+  where
+    small_min : (size : ℕ) → min size (2 ^ 40 + 1) < 2 ^ 64
+    small_min size = omega arith
+capped_small NoSize = omega arith
+capped_small Loop = omega arith
+
+layout_small : (layouts : List TypeLayout) (n : ℕ) → layout_size (layout_at (map capped layouts) n) < 2 ^ 64
+layout_small [] n = omega arith
+layout_small (layout ∷ layouts) zero = capped_small layout
+layout_small (layout ∷ layouts) (suc n) = layout_small layouts n
+
+global_small : (m : Module) (ty : ℕ) → IsAccepted m → alloc_size m ty < 2 ^ 64
+global_small m ty accepted =
+    let same : m.layouts ≡ map capped (exact_layouts m.types m.fields) = accepted.runnable.resolved.outside.layouts in
+    subst (λ (layouts : List TypeLayout). layout_size (layout_at layouts ty) < 2 ^ 64) (sym same) (layout_small (exact_layouts m.types m.fields) ty)
+
+globals_small : (m : Module) → IsAccepted m → AreSmall (global_births m m.globals)
+globals_small m accepted o x e =
+    let h = global_of m m.globals o x e in
+    let small = global_small m h.g.ty accepted in
+    let size : x.size ≡ alloc_size m h.g.ty = ap (λ (y : SourceObject). y.size) h.is in
+    omega arith
+
+abbrev IsSmallStep : SourceWorldStep → Type 0
+IsSmallStep (Next w report) = AreSmall w.shared.births
+IsSmallStep (Last w report ending) = Unit {0}
+IsSmallStep NoStep = Unit {0}
+
+pub start_small : (m : Module) (w : SourceWorld) (report : SourceReport) → IsAccepted m → source_start m ≡ Next w report → AreSmall w.shared.births
+unfolding source_start
+start_small m w report accepted e =
+    let (f, there) = main_at m.functions m.main accepted.runnable.resolved.main_there in
+    let entered = entered_good m (global_births m m.globals) m.main 0 [] f.allocas (globals_good m accepted) in
+    let small = entered.small (frame_sizes m m.main f accepted there) (globals_small m accepted) in
+    subst IsSmallStep e (subst (λ (o : Option Function). IsSmallStep (start_with m o)) (sym there) small)
+  where
+    main_at : (functions : List Function) (n : ℕ) → n < length functions → (f : Function) × (slice_get functions n ≡ Some f)
+    main_at [] n h = absurd (omega arith)
+    main_at (f ∷ functions) zero h = (f, refl)
+    main_at (f ∷ functions) (suc n) h = main_at functions n (omega arith)

@@ -1,5 +1,5 @@
 -- Operands have values of their types, and steps go on from them.
-use Rattle.std.proofs.Common.{◌≡◌, ℕ, List, [], slice_get, slice_index, Option, Some, None, Bool, true, false, ◌&&◌, refl, sym, ap, subst, eqb-true}
+use Rattle.std.proofs.Common.{◌≡◌, ℕ, List, [], slice_get, slice_index, Option, Some, None, Bool, true, false, ◌&&◌, refl, sym, ap, subst, eqb-true, ◌<◌, ◌^◌, ◌%◌}
 use Rattle.std.specs.Prelude.{option_and_then}
 use Rattle.std.specs.Option.{option_flatten}
 use Rattle.hw_base.specs.declared.pointers.Base.{Base}
@@ -20,6 +20,8 @@ use Rattle.ir_meaning.specs.Operands.{of_kind, constant_value, value_by, operand
 use Rattle.ir_meaning.specs.State.{SourceOutcome}
 use Rattle.ir_meaning.specs.Values.{Value, Integer, Address, IntegerAndBit}
 use Rattle.well_typed_runs.specs.KnownValues.{IsOfType, IsKnownBase, IsKnownValue, AreGoodBirths, HasValue}
+use Rattle.std.proofs.Math.Nat.{mod-lt}
+use Rattle.std.proofs.lemmas.Nat.{pow_pos}
 
 -- ---- types
 
@@ -138,6 +140,15 @@ integer_good G births width w None go h k = absurd h
 integer_good G births width w (Some (Integer n)) go h k = k _
 integer_good G births width w (Some (Address base off)) go h k = let e = h.0 in absurd cc
 integer_good G births width w (Some (IntegerAndBit n bit)) go h k = let e = h.0 in absurd cc
+
+-- the same, with the bound on what a step goes on from
+pub bounded_good : (G : SourceOutcome → Type 0) (births : List Birth) (width w : ℕ) (found : Option Value) (go : ℕ → SourceOutcome) → HasValue births (Int w) found
+    → ((n : ℕ) → n < 2 ^ width → G (go n)) → G (with_integer width found go)
+unfolding with_integer
+bounded_good G births width w None go h k = absurd h
+bounded_good G births width w (Some (Integer n)) go h k = k (n % 2 ^ width) (mod-lt n (pow_pos width))
+bounded_good G births width w (Some (Address base off)) go h k = let e = h.0 in absurd cc
+bounded_good G births width w (Some (IntegerAndBit n bit)) go h k = let e = h.0 in absurd cc
 
 pub pointer_good : (G : SourceOutcome → Type 0) (births : List Birth) (found : Option Value) (go : Base → ℕ → SourceOutcome) → HasValue births Ptr found
     → ((base : Base) (off : ℕ) → IsKnownBase births base → G (go base off)) → G (with_pointer found go)

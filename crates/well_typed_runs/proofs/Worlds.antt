@@ -11,7 +11,7 @@ use Rattle.ir_meaning.specs.BirthChanges.{OnlyGrow}
 use Rattle.ir_meaning.specs.Runs.{step_under, source_world_step, source_run_from}
 use Rattle.ir_meaning.specs.State.{SourceFrame, SourceSeen, SourceOutcome, SourceReport, SourceShared, SourceWorld, SourceWorldStep, SourceRun, nothing_happened}
 use Rattle.well_typed_runs.specs.GoodFrames.{IsGoodFrame, IsGoodTask}
-use Rattle.well_typed_runs.specs.GoodWorlds.{IsAccepted, IsGoodSeen, IsGoodAfter, IsGoodOutcome, IsGoodWorld, AreSmall}
+use Rattle.well_typed_runs.specs.GoodWorlds.{IsAccepted, IsGoodSeen, IsGoodAfter, IsGoodOutcome, IsGoodWorld, AreSmall, IsWithoutCalloc}
 use Rattle.well_typed_runs.proofs.EachStep.{step_good}
 use Rattle.well_typed_runs.proofs.Registers.{get-set_here, get-set_other}
 use Rattle.well_typed_runs.proofs.Settings.{task-grows}
@@ -146,6 +146,39 @@ world_good m input turns w accepted good small =
     subst (λ (o : Option (List SourceFrame)). IsGoodWorldStep m (task_step (step_under m input) nothing_happened (counted w) k o)) (sym has.there)
     (lifted_good m (counted w) k has.frame has.callers (step_under m input s) at_work (step_good m _ s accepted seen_good small))
 
+-- without `calloc` a step keeps objects small
+abbrev pub KeepsSmall : Module → SourceWorld → SourceWorldStep → Type 0
+KeepsSmall m w (Next v report) = IsWithoutCalloc m → AreSmall w.shared.births → AreSmall v.shared.births
+KeepsSmall m w (Last v report ending) = Unit {0}
+KeepsSmall m w NoStep = Unit {0}
+
+lifted_small : (m : Module) (w : SourceWorld) (k : ℕ) (frame : SourceFrame) (callers : List SourceFrame) (outcome : SourceOutcome)
+    → IsGoodOutcome m (seen w k frame callers) outcome → KeepsSmall m w (lifted w k nothing_happened outcome)
+lifted_small m w k frame callers (Goes t report) h = h.small
+lifted_small m w k frame callers Stays h = λ without small. small
+lifted_small m w k frame callers (Starts t report new) h = h.0.small
+lifted_small m w k frame callers (Finishes shared report) h = h.small
+lifted_small m w k frame callers (Ends shared frames report ending) h = tt
+lifted_small m w k frame callers Stuck h = tt
+
+pub world_small : (m : Module) (input : List ℕ) (turns : ℕ → ℕ) (w : SourceWorld) → IsAccepted m → IsGoodWorld m w → AreSmall w.shared.births
+    → KeepsSmall m w (source_world_step m input turns w)
+unfolding world_step
+world_small m input turns w accepted good small =
+    let k : ℕ = next_task turns w in
+    let has = next_has m turns w good in
+    let stack = good.tasks k (has.frame ∷ has.callers) has.there in
+    let s : SourceSeen = seen (counted w) k has.frame has.callers in
+    let seen_good : IsGoodSeen m s = record { births = good.births; frame = stack.0; callers = stack.1 } in
+    subst (λ (o : Option (List SourceFrame)). KeepsSmall m w (task_step (step_under m input) nothing_happened (counted w) k o)) (sym has.there)
+    (counted_small m w (lifted (counted w) k nothing_happened (step_under m input s))
+    (lifted_small m (counted w) k has.frame has.callers (step_under m input s) (step_good m _ s accepted seen_good small)))
+  where
+    counted_small : (m : Module) (w : SourceWorld) (step : SourceWorldStep) → KeepsSmall m (counted w) step → KeepsSmall m w step
+    counted_small m w (Next v report) h = h
+    counted_small m w (Last v report ending) h = tt
+    counted_small m w NoStep h = tt
+
 -- ---- the run
 
 -- each state that a run comes to from another one has only objects of fewer than 2^64 bytes, before each of so many steps
@@ -179,3 +212,31 @@ run_good m input turns (suc bound) w accepted good small =
     (λ v report is next_good. run_good m input turns bound v accepted next_good (λ n u reports below e.
     small (suc n) u (report ∷ reports) (omega arith)
     (ap (λ (step : SourceWorldStep). after_step (source_run_from m input turns n) step) is ∙ ap (λ (run : SourceRun). after_report report run) e)))
+
+-- ---- the run of a module without `calloc`
+
+abbrev pub IsSmallRun : Module → SourceRun → Type 0
+IsSmallRun m (Spent w reports) = IsGoodWorld m w × AreSmall w.shared.births
+IsSmallRun m (Ended w reports ending) = Unit {0}
+IsSmallRun m IsStuck = ⊥
+
+small_reported : (m : Module) (report : SourceReport) (run : SourceRun) → IsSmallRun m run → IsSmallRun m (after_report report run)
+small_reported m report (Spent w reports) h = h
+small_reported m report (Ended w reports ending) h = tt
+small_reported m report IsStuck h = h
+
+pub small_after : (m : Module) (go : SourceWorld → SourceRun) (step : SourceWorldStep) → IsGoodWorldStep m step
+    → ((w : SourceWorld) (report : SourceReport) → step ≡ Next w report → IsGoodWorld m w → IsSmallRun m (go w)) → IsSmallRun m (after_step go step)
+small_after m go (Next w report) h k = small_reported m report (go w) (k w report refl h)
+small_after m go (Last w report ending) h k = tt
+small_after m go NoStep h k = absurd h
+
+pub small_run : (m : Module) (input : List ℕ) (turns : ℕ → ℕ) (bound : ℕ) (w : SourceWorld) → IsAccepted m → IsWithoutCalloc m → IsGoodWorld m w → AreSmall w.shared.births
+    → IsSmallRun m (source_run_from m input turns bound w)
+unfolding run_from
+small_run m input turns zero w accepted without good small = (good, small)
+small_run m input turns (suc bound) w accepted without good small =
+    small_after m (source_run_from m input turns bound) (source_world_step m input turns w) (world_good m input turns w accepted good small)
+    (λ v report is next_good.
+    small_run m input turns bound v accepted without next_good
+    (subst (λ (step : SourceWorldStep). KeepsSmall m w step) is (world_small m input turns w accepted good small) without small))

@@ -2,7 +2,9 @@
 use Rattle.std.specs.Prelude.{◌≡◌, ℕ, ◌<◌, ◌^◌, List, [], ◌∷◌, length, slice_get, None, Some}
 use Rattle.hw_base.specs.declared.pointers.Obj.{Obj}
 use Rattle.hw_tags.specs.TaskRuns.{Goes, Stays, Starts, Finishes, Ends, Stuck}
+use Rattle.ir_core.specs.declared.ir_module.Declare.{Declare}
 use Rattle.ir_core.specs.declared.ir_module.Module.{Module}
+use Rattle.ir_core.specs.declared.lib_functions.Lib.TheVariants.{Calloc}
 use Rattle.ir_core.specs.Runnable.{IsRunnable}
 use Rattle.ir_check_types.specs.Rules.{type_fault}
 use Rattle.ir_check_flow.specs.Check.{IsFlowFault}
@@ -23,6 +25,10 @@ pub record IsAccepted (m : Module) : Type 0 where
 abbrev pub AreSmall : List Birth → Type 0
 AreSmall births = (o : Obj) (x : SourceObject) → get_object births o ≡ Some x → x.size < 2 ^ 64
 
+-- the module doesn't declare `calloc`, which alone can make a block of 2^64 bytes or more
+abbrev pub IsWithoutCalloc : Module → Type 0
+IsWithoutCalloc m = (n : ℕ) (d : Declare) → slice_get m.declares n ≡ Some d → d.lib ≡ Calloc → ⊥
+
 -- what a step of a task sees
 pub record IsGoodSeen (m : Module) (s : SourceSeen) : Type 0 where
   pub births : AreGoodBirths m s.shared.births
@@ -33,6 +39,7 @@ pub record IsGoodSeen (m : Module) (s : SourceSeen) : Type 0 where
 pub record IsGoodAfter (m : Module) (earlier later : List Birth) (task : ℕ) (stack : List SourceFrame) : Type 0 where
   pub births : AreGoodBirths m later
   pub grow : OnlyGrow earlier later
+  pub small : IsWithoutCalloc m → AreSmall earlier → AreSmall later
   pub frames : IsGoodTask m later task stack
 
 -- what comes of a step is as it should be: it isn't stuck

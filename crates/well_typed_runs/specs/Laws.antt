@@ -8,10 +8,10 @@ use Rattle.ir_check_flow.specs.Checked.{IsChecked}
 use Rattle.ir_meaning.specs.Runs.{source_run}
 use Rattle.ir_meaning.specs.State.{SourceFrame, SourceReport, SourceWorld}
 use Rattle.ir_meaning.specs.Values.{Value}
-use Rattle.well_typed_runs.specs.GoodWorlds.{AreSmall, IsAccepted, IsGoodWorld}
+use Rattle.well_typed_runs.specs.GoodWorlds.{AreSmall, IsAccepted, IsGoodWorld, IsWithoutCalloc}
 use Rattle.well_typed_runs.specs.KnownValues.{IsOfType}
 
--- In the states before so many steps of a run each object has fewer than 2^64 bytes. Only `calloc` can ask for more.
+-- in the states before so many steps of a run each object has fewer than 2^64 bytes
 abbrev pub StaysSmall : Module → (input : List ℕ) → (turns : ℕ → ℕ) → (bound : ℕ) → Type 0
 StaysSmall m input turns bound =
     (n : ℕ) (w : SourceWorld) (reports : List SourceReport) → n < bound → source_run m input turns n ≡ Spent w reports → AreSmall w.shared.births
@@ -24,6 +24,10 @@ CheckedAreAccepted = (m : Module) → IsChecked m → IsAccepted m
 abbrev pub RunsAreNeverStuck : Type 0
 RunsAreNeverStuck =
     (m : Module) (input : List ℕ) (turns : ℕ → ℕ) (bound : ℕ) → IsAccepted m → StaysSmall m input turns bound → source_run m input turns bound ≢ IsStuck
+
+-- a module that doesn't declare `calloc` keeps objects small
+abbrev pub WithoutCallocStaysSmall : Type 0
+WithoutCallocStaysSmall = (m : Module) (input : List ℕ) (turns : ℕ → ℕ) (bound : ℕ) → IsAccepted m → IsWithoutCalloc m → StaysSmall m input turns bound
 
 -- the states that a run comes to are as they should be
 abbrev pub StatesAreGood : Type 0
