@@ -32,6 +32,7 @@ use Rattle.ir_meaning.specs.State.{SourceSeen, SourceOutcome, nothing_happened}
 use Rattle.well_typed_runs.specs.KnownValues.{HasValue}
 use Rattle.well_typed_runs.specs.GoodWorlds.{IsAccepted, IsGoodSeen, IsGoodOutcome, AreSmall}
 use Rattle.well_typed_runs.proofs.AddressSteps as addresses
+use Rattle.well_typed_runs.proofs.BlockSteps as blocks
 use Rattle.well_typed_runs.proofs.BranchSteps as branches
 use Rattle.well_typed_runs.proofs.CallSteps as calls
 use Rattle.well_typed_runs.proofs.CreateSteps as creates
@@ -109,14 +110,14 @@ module _ (m : Module) (next : Input) (s : SourceSeen) (accepted : IsAccepted m) 
   plain_good : (declare ty : ℕ) (args : List Placed) (d : Declare) → (h : IsLibraryCall declare ty args None d) → StartsAsItIs m d.lib None → (l : Lib) → d.lib ≡ l
       → IsGoodOutcome m s (library_step m next s here.result args (values_of m s args) None l)
   plain_good declare ty args d h starts lib.Malloc e =
-      library.malloc_good m s good setting (plain_call declare ty args None h.is) (values_of m s args) (has declare ty args d lib.Malloc h e refl 0 (Int 64) refl) (gives declare ty args None d lib.Malloc h e refl)
+      blocks.malloc_good m s good setting (plain_call declare ty args None h.is) (values_of m s args) (has declare ty args d lib.Malloc h e refl 0 (Int 64) refl) (gives declare ty args None d lib.Malloc h e refl)
   plain_good declare ty args d h starts lib.Calloc e =
-      library.calloc_good m s good setting (plain_call declare ty args None h.is) (values_of m s args) (λ without. without declare d h.there e) (has declare ty args d lib.Calloc h e refl 0 (Int 64) refl)
+      blocks.calloc_good m s good setting (plain_call declare ty args None h.is) (values_of m s args) (λ without. without declare d h.there e) (has declare ty args d lib.Calloc h e refl 0 (Int 64) refl)
       (has declare ty args d lib.Calloc h e refl 1 (Int 64) refl) (gives declare ty args None d lib.Calloc h e refl)
   plain_good declare ty args d h starts lib.Free e =
-      library.free_good m s good setting (plain_call declare ty args None h.is) (values_of m s args) (has declare ty args d lib.Free h e refl 0 Ptr refl) (gives_none declare ty args None d lib.Free h e refl)
+      blocks.free_good m s good setting (plain_call declare ty args None h.is) (values_of m s args) (has declare ty args d lib.Free h e refl 0 Ptr refl) (gives_none declare ty args None d lib.Free h e refl)
   plain_good declare ty args d h starts lib.Realloc e =
-      library.realloc_good m s good setting (plain_call declare ty args None h.is) (values_of m s args) (has declare ty args d lib.Realloc h e refl 0 Ptr refl)
+      blocks.realloc_good m s good setting (plain_call declare ty args None h.is) (values_of m s args) (has declare ty args d lib.Realloc h e refl 0 Ptr refl)
       (has declare ty args d lib.Realloc h e refl 1 (Int 64) refl) (gives declare ty args None d lib.Realloc h e refl)
   plain_good declare ty args d h starts lib.Memcpy e =
       library.copy_good m s good setting (plain_call declare ty args None h.is) (values_of m s args) (has declare ty args d lib.Memcpy h e refl 0 Ptr refl) (has declare ty args d lib.Memcpy h e refl 1 Ptr refl)

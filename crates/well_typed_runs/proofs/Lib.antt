@@ -15,6 +15,7 @@ pub mod CallSteps
 pub mod ReturnSteps
 pub mod LibraryArguments
 pub mod Strings
+pub mod BlockSteps
 pub mod LibrarySteps
 pub mod CreateSteps
 pub mod EachStep

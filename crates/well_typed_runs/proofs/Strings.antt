@@ -22,7 +22,7 @@ IsAnswered NotEnded = Unit {0}
 
 before-answered : (n : ℕ) (found : StringAnswer) → IsAnswered found → IsAnswered (byte_before n found)
 before-answered n (Whole ns) h = tt
-before-answered n (Refused off answer) h = h
+before-answered n (Refused off refusal) h = h
 before-answered n MeetsPiece h = tt
 before-answered n NotEnded h = tt
 
