@@ -1,5 +1,5 @@
 -- The access rule answers every access through a pointer to what was born, and steps go on from it.
-use Rattle.std.proofs.Common.{◌≡◌, ◌≢◌, ℕ, zero, suc, ◌+◌, ◌%◌, List, Option, Some, None, Bool, true, false, cond, nat_le, ◌==◌, refl, sym, subst}
+use Rattle.std.proofs.Common.{◌≡◌, ◌≢◌, ℕ, zero, suc, ◌+◌, ◌%◌, List, Option, Some, None, Bool, true, false, cond, nat_le, ◌==◌, refl, sym, subst, inl}
 use Rattle.std.specs.Prelude.{Result, Ok, Err}
 use Rattle.hw_base.specs.declared.accesses.Access.{Access}
 use Rattle.hw_base.specs.declared.accesses.Access.TheVariants.{Read, Write, Free}
@@ -99,9 +99,9 @@ pub answer_good : (m : Module) (s : SourceSeen) (access : Access) (base : Base) 
     → (answer ≡ Fine → IsGoodOutcome m s next) → IsGoodOutcome m s (on_answer s access base off size answer next)
 unfolding on_answer
 answer_good m s access base off size Fine next h k = k refl
-answer_good m s access base off size (Violates kind) next h k = tt
-answer_good m s access base off size WritesConstant next h k = tt
-answer_good m s access base off size (IsOutside reason) next h k = tt
+answer_good m s access base off size (Violates kind) next h k = inl refl
+answer_good m s access base off size WritesConstant next h k = inl refl
+answer_good m s access base off size (IsOutside reason) next h k = inl refl
 answer_good m s access base off size NoAnswer next h k = absurd (h refl)
 
 pub access_good : (m : Module) (s : SourceSeen) (access : Access) (base : Base) (off size align : ℕ) (next : SourceOutcome) → AreGoodBirths m s.shared.births
@@ -115,10 +115,10 @@ pub read_good : (m : Module) (s : SourceSeen) (r : Result Value Reason) (go : Va
     → IsGoodOutcome m s (on_read s r go)
 unfolding on_read
 read_good m s (Ok value) go h = h value refl
-read_good m s (Err reason) go h = tt
+read_good m s (Err reason) go h = inl refl
 
 pub read_integer_good : (m : Module) (s : SourceSeen) (found : Option ℕ) (go : ℕ → SourceOutcome) → ((n : ℕ) → IsGoodOutcome m s (go n))
     → IsGoodOutcome m s (on_integer s found go)
 unfolding on_integer
-read_integer_good m s None go h = tt
+read_integer_good m s None go h = inl refl
 read_integer_good m s (Some n) go h = h n

@@ -1,5 +1,5 @@
 -- Calls of defined functions and returns aren't stuck.
-use Rattle.std.proofs.Common.{◌≡◌, ℕ, zero, suc, ◌+◌, ◌-◌, ◌<◌, ◌≤◌, List, [], ◌∷◌, ◌++◌, length, map, replicate, take, get_or, slice_get, slice_index, Option, Some, None, Bool, true, false, nat_le, ◌==◌, if◌then◌else◌, refl, sym, ◌∙◌, ap, subst, arith}
+use Rattle.std.proofs.Common.{◌≡◌, ℕ, zero, suc, ◌+◌, ◌-◌, ◌<◌, ◌≤◌, List, [], ◌∷◌, ◌++◌, length, map, replicate, take, get_or, slice_get, slice_index, Option, Some, None, Bool, true, false, nat_le, ◌==◌, if◌then◌else◌, refl, sym, ◌∙◌, ap, subst, arith, inl}
 use Rattle.std.proofs.lemmas.Bool.Decides.{nat_tests}
 use Rattle.std.proofs.lemmas.List.{length-append, length-map, length-replicate}
 use Rattle.std.specs.Prelude.{option_and_then}
@@ -292,7 +292,7 @@ module _ (m : Module) (s : SourceSeen) (accepted : IsAccepted m) (good : IsGoodS
       named_good is_good (slice_get m.functions func) callee _ there
       (named_good is_good (all_single (values_of m s args)) singles.values _ singles.is
       (counted_good callee singles.values _ params
-      (by_test (nat_le MOST_FRAMES (length s.callers + 1)) _ _ tt
+      (by_test (nat_le MOST_FRAMES (length s.callers + 1)) _ _ (inl refl)
       (record {
         births = entered.births;
         grow = entered.grow;

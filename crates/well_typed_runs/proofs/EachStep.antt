@@ -1,5 +1,5 @@
 -- No step of an accepted module is stuck, one line a kind of instruction and a declared function.
-use Rattle.std.proofs.Common.{◌≡◌, ℕ, zero, suc, ◌+◌, ◌<◌, List, [], ◌∷◌, length, slice_get, Option, Some, None, true, false, ◌==◌, refl, ◌∙◌, ap, subst, arith, eqb-true}
+use Rattle.std.proofs.Common.{◌≡◌, ℕ, zero, suc, ◌+◌, ◌<◌, List, [], ◌∷◌, length, slice_get, Option, Some, None, true, false, ◌==◌, refl, ◌∙◌, ap, subst, arith, eqb-true, inl}
 use Rattle.std.proofs.lemmas.List.{length-map}
 use Rattle.hw_base.specs.declared.endings.Input.{Input}
 use Rattle.ir_core.specs.declared.faults.Fault.TheVariants.{BadType}
@@ -261,7 +261,7 @@ module _ (m : Module) (next : Input) (s : SourceSeen) (accepted : IsAccepted m) 
   op_good (op.BrIf cond yes_block no_block) is resolved runs none = branches.br_if_good m s accepted good setting cond yes_block no_block is resolved none
   op_good (op.Switch on_value other cases) is resolved runs none = branches.switch_good m s accepted good setting on_value other cases is resolved none
   op_good (op.Ret value) is resolved runs none = returns.ret_good m s accepted good setting value is resolved none
-  op_good op.Unreachable is resolved runs none = tt
+  op_good op.Unreachable is resolved runs none = inl refl
 
   pub instruction_good : IsGoodOutcome m s (operation_step m next f s here.result here.op)
   instruction_good = op_good here.op refl setting.resolved setting.runs setting.typed

@@ -1,5 +1,5 @@
 -- Calls of the other declared functions, but for `pthread_create`, aren't stuck.
-use Rattle.std.proofs.Common.{◌≡◌, ◌≢◌, ℕ, zero, suc, ◌+◌, ◌*◌, ◌%◌, ◌^◌, List, [], ◌∷◌, ◌++◌, length, replicate, slice_get, Option, Some, None, Bool, true, false, ◌==◌, if◌then◌else◌, refl, sym, subst, arith}
+use Rattle.std.proofs.Common.{◌≡◌, ◌≢◌, ℕ, zero, suc, ◌+◌, ◌*◌, ◌%◌, ◌^◌, List, [], ◌∷◌, ◌++◌, length, replicate, slice_get, Option, Some, None, Bool, true, false, ◌==◌, if◌then◌else◌, refl, sym, subst, arith, inl}
 use Rattle.hw_base.specs.declared.accesses.Access.{Access}
 use Rattle.hw_base.specs.declared.accesses.Access.TheVariants.{Read, Write}
 use Rattle.hw_base.specs.declared.endings.Input.{Input}
@@ -130,8 +130,8 @@ module _ (m : Module) (s : SourceSeen) (good : IsGoodSeen m s) (setting : IsSett
 
   order_good : (xs ys : Option (List ℕ)) → given_type m here.op ≡ Int 32 → IsGoodOutcome m s (gives_order s here.result xs ys)
   order_good (Some xs) (Some ys) given = gives_int 32 _ nothing_happened given
-  order_good (Some xs) None given = tt
-  order_good None ys given = tt
+  order_good (Some xs) None given = inl refl
+  order_good None ys given = inl refl
 
   pub memcmp_good : (values : List (Option Value)) → HasValue there Ptr (argument values 0) → HasValue there Ptr (argument values 1) → HasValue there (Int 64) (argument values 2)
       → given_type m here.op ≡ Int 32 → IsGoodOutcome m s (on_accesses s values (Counted Read 0 2 ∷ Counted Read 1 2 ∷ []) (memcmp_step s here.result values))
@@ -149,7 +149,7 @@ module _ (m : Module) (s : SourceSeen) (good : IsGoodSeen m s) (setting : IsSett
   unfolding on_string on_whole
   string_good base off (Whole ns) go h ended k = k ns
   string_good base off (Refused at answer) go h ended k = answer_good m s Read base at 1 answer Stuck h.1 (λ fine. absurd (h.0 fine))
-  string_good base off MeetsPiece go h ended k = tt
+  string_good base off MeetsPiece go h ended k = inl refl
   string_good base off NotEnded go h ended k = absurd (ended refl)
 
   string_with : (small : AreSmall there) (found : Option Value) (go : List ℕ → SourceOutcome) → HasValue there Ptr found → ((ns : List ℕ) → IsGoodOutcome m s (go ns))
@@ -197,11 +197,11 @@ module _ (m : Module) (s : SourceSeen) (good : IsGoodSeen m s) (setting : IsSett
 
   pub exit_good : (values : List (Option Value)) → HasValue there (Int 32) (argument values 0) → IsGoodOutcome m s (on_accesses s values [] (exit_step s values))
   unfolding on_accesses exit_step
-  exit_good values h = integer_good is_good there 32 32 (argument values 0) _ h (λ c. tt)
+  exit_good values h = integer_good is_good there 32 32 (argument values 0) _ h (λ c. inl refl)
 
   pub abort_good : (values : List (Option Value)) → IsGoodOutcome m s (on_accesses s values [] (abort_step s))
   unfolding on_accesses abort_step
-  abort_good values = tt
+  abort_good values = inl refl
 
   pub nothing_good : (values : List (Option Value)) → is_value_type (given_type m here.op) ≡ false → IsGoodOutcome m s (on_accesses s values [] (nothing_step s))
   unfolding on_accesses nothing_step

@@ -1,5 +1,5 @@
 -- Loads, stores and atomic instructions aren't stuck.
-use Rattle.std.proofs.Common.{◌≡◌, ℕ, List, [], Option, Some, None, Bool, true, false, ◌==◌, if◌then◌else◌, ◌&&◌, refl, sym, ap, subst}
+use Rattle.std.proofs.Common.{◌≡◌, ℕ, List, [], Option, Some, None, Bool, true, false, ◌==◌, if◌then◌else◌, ◌&&◌, refl, sym, ap, subst, inl}
 use Rattle.std.specs.Prelude.{ok_or}
 use Rattle.hw_base.specs.declared.accesses.Access.TheVariants.{Read, Write}
 use Rattle.hw_base.specs.declared.accesses.Reason.TheVariants.{MixedBytes}
@@ -71,7 +71,7 @@ module _ (m : Module) (s : SourceSeen) (good : IsGoodSeen m s) (setting : IsSett
   read_pointer : (found : Option Value) → ((v : Value) → found ≡ Some v → HasValue s.shared.births Ptr (Some v)) → is_terminator here.op ≡ false → given_type m here.op ≡ Ptr
       → IsGoodOutcome m s (on_read s (ok_or found MixedBytes) (λ value. gives s here.result value))
   unfolding on_read
-  read_pointer None has plain given = tt
+  read_pointer None has plain given = inl refl
   read_pointer (Some v) has plain given =
       let known = has v refl in
       on.gives_good m s good setting Ptr v nothing_happened plain given refl known.0 known.1

@@ -1,5 +1,5 @@
 -- Returns aren't stuck, and give the caller a value of the type of its register.
-use Rattle.std.proofs.Common.{◌≡◌, ℕ, zero, suc, List, [], ◌∷◌, slice_get, Option, Some, None, true, false, refl, sym, ◌∙◌, ap, subst}
+use Rattle.std.proofs.Common.{◌≡◌, ℕ, zero, suc, List, [], ◌∷◌, slice_get, Option, Some, None, true, false, refl, sym, ◌∙◌, ap, subst, inr}
 use Rattle.std.specs.Prelude.{option_and_then, option_map}
 use Rattle.ir_core.specs.declared.faults.Fault.TheVariants.{BadType}
 use Rattle.ir_core.specs.declared.ir_module.Function.{Function}
@@ -180,7 +180,7 @@ module _ (m : Module) (s : SourceSeen) (accepted : IsAccepted m) (good : IsGoodS
       by_value None h = let no_void : is_same (Int 32) Void ≡ true = subst (λ (t : IrType). is_same t Void ≡ true) main h in absurd cc
       by_value (Some v) h =
           let typed : IsOfType (Int 32) v = subst (λ (t : IrType). IsOfType t v) main h.1 in
-          integer_good is_good s.shared.births 32 32 (Some v) _ (typed, h.2) (λ n. tt)
+          integer_good is_good s.shared.births 32 32 (Some v) _ (typed, h.2) (λ n. inr refl)
 
   back_good : (value : Option Value) (callers : List SourceFrame) → s.callers ≡ callers → IsReturned m s.shared.births good.frame.f value → IsGoodOutcome m s (returns_to m s value callers)
   back_good value [] is returned = last_good value s.task refl is returned

@@ -1,5 +1,5 @@
 -- Steps that compute a value from values, are not stuck and give a value of the type of their register.
-use Rattle.std.proofs.Common.{◌≡◌, ℕ, zero, suc, slice_get, Option, Some, None, Bool, true, false, if◌then◌else◌, ◌&&◌, refl, ◌∙◌, ap, subst}
+use Rattle.std.proofs.Common.{◌≡◌, ℕ, zero, suc, slice_get, Option, Some, None, Bool, true, false, if◌then◌else◌, ◌&&◌, refl, ◌∙◌, ap, subst, inl}
 use Rattle.std.specs.Prelude.{Result, Ok, Err}
 use Rattle.hw_base.specs.Bits.{bit_of, is_set}
 use Rattle.hw_base.specs.declared.endings.Trap.{Trap}
@@ -60,7 +60,7 @@ module _ (m : Module) (s : SourceSeen) (good : IsGoodSeen m s) (setting : IsSett
 
   or_trap : (width : ℕ) (r : Result ℕ Trap) → is_terminator here.op ≡ false → given_type m here.op ≡ Int width → IsGoodOutcome m s (gives_or_traps s here.result r)
   or_trap width (Ok n) plain given = gives_integer width n plain given
-  or_trap width (Err trap) plain given = tt
+  or_trap width (Err trap) plain given = inl refl
 
   pub binary_good : (kind : BinOp) (a b : Placed) → here.op ≡ op.Binary kind a b → IsResolvedOp m good.frame.f (op.Binary kind a b)
       → operation_fault m good.frame.f here.place (op.Binary kind a b) ≡ None
@@ -78,7 +78,7 @@ module _ (m : Module) (s : SourceSeen) (good : IsGoodSeen m s) (setting : IsSett
   -- ---- comparisons
 
   comparison : (answer : Option Bool) → is_terminator here.op ≡ false → given_type m here.op ≡ Int 1 → IsGoodOutcome m s (gives_comparison s here.result answer)
-  comparison None plain given = tt
+  comparison None plain given = inl refl
   comparison (Some b) plain given = gives_integer 1 (bit_of b) plain given
 
   compared : (pred : Pred) (type : IrType) (a b : Option Value) → is_terminator here.op ≡ false → given_type m here.op ≡ Int 1 → is_number_type type ≡ true

@@ -10,11 +10,15 @@ use Rattle.ir_meaning.specs.Births.{Birth}
 use Rattle.ir_meaning.specs.BirthChanges.{OnlyGrow}
 use Rattle.ir_meaning.specs.Runs.{step_under, source_world_step, source_run_from}
 use Rattle.ir_meaning.specs.State.{SourceFrame, SourceSeen, SourceOutcome, SourceReport, SourceShared, SourceWorld, SourceWorldStep, SourceRun, nothing_happened}
-use Rattle.well_typed_runs.specs.GoodFrames.{IsGoodFrame, IsGoodTask}
+use Rattle.well_typed_runs.specs.GoodFrames.{IsGoodFrame, IsGoodTask, AreGoodCallers}
 use Rattle.well_typed_runs.specs.GoodWorlds.{IsAccepted, IsGoodSeen, IsGoodAfter, IsGoodOutcome, IsGoodWorld, AreSmall, IsWithoutCalloc}
 use Rattle.well_typed_runs.proofs.EachStep.{step_good}
 use Rattle.well_typed_runs.proofs.Registers.{get-set_here, get-set_other}
 use Rattle.well_typed_runs.proofs.Settings.{task-grows}
+use Rattle.well_typed_runs.specs.Typed.{AreTyped, FramesAreTyped, TasksAreTyped}
+use Rattle.well_typed_runs.specs.KnownValues.{IsOfType}
+use Rattle.ir_core.specs.declared.ir_module.Function.{Function}
+use Rattle.ir_core.specs.NumberTypes.{type_of}
 
 -- ---- the task that makes a step
 
@@ -117,21 +121,65 @@ started_good m w frame good new =
     longer [] h = omega arith
     longer (x ∷ tasks) h = omega arith
 
+-- ---- the last state
+
+frame_typed : (m : Module) (births : List Birth) (frame : SourceFrame) → IsGoodFrame m births frame → AreTyped m frame
+frame_typed m births frame good f r value there e =
+    let good_there = good.there in
+    let same : good.f ≡ f = cc in
+    subst (λ (g : Function). IsOfType (type_of m (slice_index g.regs r)) value) same (good.registers.typed r value e)
+
+callers_typed : (m : Module) (births : List Birth) (task func : ℕ) (callers : List SourceFrame) → AreGoodCallers m births task func callers → FramesAreTyped m callers
+callers_typed m births task func [] good depth frame e = absurd cc
+callers_typed m births task func (caller ∷ callers) good zero frame e =
+    let same : caller ≡ frame = cc in subst (AreTyped m) same (frame_typed m births caller good.0.frame)
+callers_typed m births task func (caller ∷ callers) good (suc depth) frame e = callers_typed m births task caller.func callers good.1 depth frame e
+
+pub frames_typed : (m : Module) (births : List Birth) (task : ℕ) (frames : List SourceFrame) → IsGoodTask m births task frames → FramesAreTyped m frames
+frames_typed m births task [] good depth frame e = absurd cc
+frames_typed m births task (first ∷ callers) good zero frame e = let same : first ≡ frame = cc in subst (AreTyped m) same (frame_typed m births first good.0)
+frames_typed m births task (first ∷ callers) good (suc depth) frame e = callers_typed m births task first.func callers good.1 depth frame e
+
+no_frames : (m : Module) → FramesAreTyped m []
+no_frames m depth frame e = absurd cc
+
+pub tasks_typed : (m : Module) (w : SourceWorld) → IsGoodWorld m w → TasksAreTyped m w
+tasks_typed m w good task frames at = frames_typed m w.shared.births task frames (good.tasks task frames at)
+
+-- a state with other frames of one task
+kept_typed : (m : Module) (w : SourceWorld) (k : ℕ) (shared : SourceShared) (stack : List SourceFrame) → IsGoodWorld m w → FramesAreTyped m stack → TasksAreTyped m (kept w k shared stack)
+kept_typed m w k shared stack good typed task frames at =
+    elim (cases_eq task k) [
+      | inl same ↦
+          let here : slice_get (slice_set w.tasks k stack) k ≡ Some frames = subst (λ (i : ℕ). slice_get (slice_set w.tasks k stack) i ≡ Some frames) same at in
+          was_set (slice_get w.tasks k) (sym (get-set_here w.tasks k stack) ∙ here)
+      | inr other ↦ tasks_typed m w good task frames (sym (get-set_other w.tasks k task stack other) ∙ at)
+    ]
+  where
+    was_set : (found : Option (List SourceFrame)) → option_map (λ _old. stack) found ≡ Some frames → FramesAreTyped m frames
+    was_set None h = absurd cc
+    was_set (Some x) h = let is : stack ≡ frames = cc in subst (λ (fs : List SourceFrame). FramesAreTyped m fs) is typed
+
 -- the next state of a step is as it should be, and there is one if the run doesn't end
 abbrev pub IsGoodWorldStep : Module → SourceWorldStep → Type 0
 IsGoodWorldStep m (Next w report) = IsGoodWorld m w
-IsGoodWorldStep m (Last w report ending) = Unit {0}
+IsGoodWorldStep m (Last w report ending) = TasksAreTyped m w
 IsGoodWorldStep m NoStep = ⊥
 
 lifted_good : (m : Module) (w : SourceWorld) (k : ℕ) (frame : SourceFrame) (callers : List SourceFrame) (outcome : SourceOutcome) → IsGoodWorld m w
+    → IsGoodTask m w.shared.births k (frame ∷ callers)
     → IsGoodOutcome m (seen w k frame callers) outcome → IsGoodWorldStep m (lifted w k nothing_happened outcome)
-lifted_good m w k frame callers (Goes t report) good h = kept_good m w k t.shared (t.frame ∷ t.callers) good h
-lifted_good m w k frame callers Stays good h = good
-lifted_good m w k frame callers (Starts t report new) good h =
+lifted_good m w k frame callers (Goes t report) good stack h = kept_good m w k t.shared (t.frame ∷ t.callers) good h
+lifted_good m w k frame callers Stays good stack h = good
+lifted_good m w k frame callers (Starts t report new) good stack h =
     started_good m (kept w k t.shared (t.frame ∷ t.callers)) new (kept_good m w k t.shared (t.frame ∷ t.callers) good h.0) h.1
-lifted_good m w k frame callers (Finishes shared report) good h = kept_good m w k shared [] good h
-lifted_good m w k frame callers (Ends shared frames report ending) good h = tt
-lifted_good m w k frame callers Stuck good h = absurd h
+lifted_good m w k frame callers (Finishes shared report) good stack h = kept_good m w k shared [] good h
+lifted_good m w k frame callers (Ends shared frames report ending) good stack h =
+    kept_typed m w k shared frames good (elim h [
+      | inl stay ↦ subst (λ (fs : List SourceFrame). FramesAreTyped m fs) (sym stay) (frames_typed m w.shared.births k (frame ∷ callers) stack)
+      | inr gone ↦ subst (λ (fs : List SourceFrame). FramesAreTyped m fs) (sym gone) (no_frames m)
+    ])
+lifted_good m w k frame callers Stuck good stack h = absurd h
 
 pub world_good : (m : Module) (input : List ℕ) (turns : ℕ → ℕ) (w : SourceWorld) → IsAccepted m → IsGoodWorld m w → AreSmall w.shared.births
     → IsGoodWorldStep m (source_world_step m input turns w)
@@ -144,7 +192,7 @@ world_good m input turns w accepted good small =
     let s : SourceSeen = seen (counted w) k has.frame has.callers in
     let seen_good : IsGoodSeen m s = record { births = good.births; frame = stack.0; callers = stack.1 } in
     subst (λ (o : Option (List SourceFrame)). IsGoodWorldStep m (task_step (step_under m input) nothing_happened (counted w) k o)) (sym has.there)
-    (lifted_good m (counted w) k has.frame has.callers (step_under m input s) at_work (step_good m _ s accepted seen_good small))
+    (lifted_good m (counted w) k has.frame has.callers (step_under m input s) at_work stack (step_good m _ s accepted seen_good small))
 
 -- without `calloc` a step keeps objects small
 abbrev pub KeepsSmall : Module → SourceWorld → SourceWorldStep → Type 0
@@ -186,21 +234,21 @@ abbrev pub StaysSmallFrom : Module → (input : List ℕ) → (turns : ℕ → �
 StaysSmallFrom m input turns bound w =
     (n : ℕ) (v : SourceWorld) (reports : List SourceReport) → n < bound → source_run_from m input turns n w ≡ Spent v reports → AreSmall v.shared.births
 
--- a run isn't stuck, and its last state is as it should be, if the bound ended it
+-- a run isn't stuck, its last state is as it should be if the bound ended it, and else its registers are
 abbrev pub IsGoodRun : Module → SourceRun → Type 0
 IsGoodRun m (Spent w reports) = IsGoodWorld m w
-IsGoodRun m (Ended w reports ending) = Unit {0}
+IsGoodRun m (Ended w reports ending) = TasksAreTyped m w
 IsGoodRun m IsStuck = ⊥
 
 reported : (m : Module) (report : SourceReport) (run : SourceRun) → IsGoodRun m run → IsGoodRun m (after_report report run)
 reported m report (Spent w reports) h = h
-reported m report (Ended w reports ending) h = tt
+reported m report (Ended w reports ending) h = h
 reported m report IsStuck h = h
 
 pub after_good : (m : Module) (go : SourceWorld → SourceRun) (step : SourceWorldStep) → IsGoodWorldStep m step
     → ((w : SourceWorld) (report : SourceReport) → step ≡ Next w report → IsGoodWorld m w → IsGoodRun m (go w)) → IsGoodRun m (after_step go step)
 after_good m go (Next w report) h k = reported m report (go w) (k w report refl h)
-after_good m go (Last w report ending) h k = tt
+after_good m go (Last w report ending) h k = h
 after_good m go NoStep h k = absurd h
 
 pub run_good : (m : Module) (input : List ℕ) (turns : ℕ → ℕ) (bound : ℕ) (w : SourceWorld) → IsAccepted m → IsGoodWorld m w → StaysSmallFrom m input turns bound w
@@ -222,7 +270,7 @@ IsSmallRun m IsStuck = ⊥
 
 small_reported : (m : Module) (report : SourceReport) (run : SourceRun) → IsSmallRun m run → IsSmallRun m (after_report report run)
 small_reported m report (Spent w reports) h = h
-small_reported m report (Ended w reports ending) h = tt
+small_reported m report (Ended w reports ending) h = h
 small_reported m report IsStuck h = h
 
 pub small_after : (m : Module) (go : SourceWorld → SourceRun) (step : SourceWorldStep) → IsGoodWorldStep m step

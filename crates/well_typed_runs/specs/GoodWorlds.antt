@@ -1,5 +1,5 @@
 -- States of a run that are as they should be, and steps that lead from one to another.
-use Rattle.std.specs.Prelude.{◌≡◌, ℕ, ◌<◌, ◌^◌, List, [], ◌∷◌, length, slice_get, None, Some}
+use Rattle.std.specs.Prelude.{◌≡◌, ℕ, ◌<◌, ◌^◌, List, [], ◌∷◌, length, slice_get, None, Some, ◌⊎◌}
 use Rattle.hw_base.specs.declared.pointers.Obj.{Obj}
 use Rattle.hw_tags.specs.TaskRuns.{Goes, Stays, Starts, Finishes, Ends, Stuck}
 use Rattle.ir_core.specs.declared.ir_module.Declare.{Declare}
@@ -42,14 +42,14 @@ pub record IsGoodAfter (m : Module) (earlier later : List Birth) (task : ℕ) (s
   pub small : IsWithoutCalloc m → AreSmall earlier → AreSmall later
   pub frames : IsGoodTask m later task stack
 
--- what comes of a step is as it should be: it isn't stuck
+-- what comes of a step is as it should be: it isn't stuck, and if it ends the run the frames of the task stay as they are or are gone
 abbrev pub IsGoodOutcome : Module → SourceSeen → SourceOutcome → Type 0
 IsGoodOutcome m s (Goes t report) = IsGoodAfter m s.shared.births t.shared.births s.task (t.frame ∷ t.callers)
 IsGoodOutcome m s Stays = Unit {0}
 IsGoodOutcome m s (Starts t report frame) =
     IsGoodAfter m s.shared.births t.shared.births s.task (t.frame ∷ t.callers) × IsGoodFrame m t.shared.births frame
 IsGoodOutcome m s (Finishes shared report) = IsGoodAfter m s.shared.births shared.births s.task []
-IsGoodOutcome m s (Ends shared frames report ending) = Unit {0}
+IsGoodOutcome m s (Ends shared frames report ending) = (frames ≡ s.frame ∷ s.callers) ⊎ (frames ≡ [])
 IsGoodOutcome m s Stuck = ⊥
 
 -- a state between two steps
