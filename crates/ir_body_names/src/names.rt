@@ -4,7 +4,7 @@ use ir_names::Index;
 
 /// What the names in bodies are resolved against, for all bodies of a text.
 #[derive(Drop)]
-pub struct Names<'a> {
+pub struct Names<'a, 'k> {
     /// The text.
     pub source: &'a [u8],
     /// Its types as they are spelled.
@@ -14,11 +14,11 @@ pub struct Names<'a> {
     /// What bodies spell.
     pub bodies: &'a SpelledBodies,
     /// The keys of the names of defined functions, in order of the text: a function's number is its place.
-    pub functions: &'a Index<'a>,
+    pub functions: &'a Index<'k>,
     /// The keys of the names of declared functions that can be called, in order of the text.
-    pub declares: &'a Index<'a>,
+    pub declares: &'a Index<'k>,
     /// The numbers of the metadata nodes that are kept, in order of the text, without the zeros in front.
-    pub nodes: &'a Index<'a>,
+    pub nodes: &'a Index<'k>,
     /// What each of these nodes describes.
     pub kinds: &'a [NodeKind],
 }

@@ -63,7 +63,7 @@ fn size_of(layouts: &[TypeLayout], ty: u32) -> u64
     }
 }
 
-impl<'a, 'b, 'c> Resolver<'a, 'b, 'c> {
+impl<'a, 'n, 'k, 'v, 'c> Resolver<'a, 'n, 'k, 'v, 'c> {
     /// The types of parameters.
     pub(crate) fn parameter_types(
         &self,

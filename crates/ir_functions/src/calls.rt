@@ -56,7 +56,7 @@ fn arguments_beside(
     Ok(kept)
 }
 
-impl<'a, 'b, 'c> Resolver<'a, 'b, 'c> {
+impl<'a, 'n, 'k, 'v, 'c> Resolver<'a, 'n, 'k, 'v, 'c> {
     /// The number of the defined function by this name.
     fn defined_function(&self, alloc: Global, name: &Token) -> Result<Option<u32>, OutOfMemory>
         ensures { IfOk result (λ n. n ≡ defined_function (scope_in self.now) name.now) }

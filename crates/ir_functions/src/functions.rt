@@ -91,10 +91,10 @@ fn function_by(
 }
 
 /// The function that a spelled one stands for, by the index of what it defines and the number of each definition.
-fn numbered_function<'a>(
+fn numbered_function(
     alloc: Global,
-    values: &'a Initializers<'a>,
-    names: &'a Names<'a>,
+    values: &Initializers,
+    names: &Names,
     index: &Index,
     numbers: &[u32],
     function: &SpelledFunction,
@@ -112,19 +112,19 @@ fn numbered_function<'a>(
     let all = names.bodies.instructions.as_slice();
     let instructions = all_instructions(alloc, all, function.blocks)?;
     let resolver = Resolver {
-        names,
-        values,
-        index,
-        numbers,
+        names: &*names,
+        values: &*values,
+        index: &*index,
+        numbers: &*numbers,
     };
     function_by(alloc, &resolver, function, instructions.as_slice())
 }
 
 /// The function that a spelled one stands for, by what it defines.
-fn defined_function<'a>(
+fn defined_function(
     alloc: Global,
-    values: &'a Initializers<'a>,
-    names: &'a Names<'a>,
+    values: &Initializers,
+    names: &Names,
     function: &SpelledFunction,
     defined: &[Definition],
 ) -> Result<Function, OutOfMemory>
@@ -144,11 +144,12 @@ fn defined_function<'a>(
     numbered_function(alloc, values, names, &index, numbers.as_slice(), function)
 }
 
-/// The function that a spelled one stands for.
-fn function_of<'a>(
+/// The function that a spelled one stands for, if no name in it has a fault; else it means nothing. For `values` and `names` see
+/// `resolve`. The only error is that memory ran out.
+pub fn function_of(
     alloc: Global,
-    values: &'a Initializers<'a>,
-    names: &'a Names<'a>,
+    values: &Initializers,
+    names: &Names,
     function: &SpelledFunction,
 ) -> Result<Function, OutOfMemory>
     requires ready { IsReady values.now }
@@ -168,10 +169,10 @@ fn function_of<'a>(
 /// `values` is what its constants are made from, with the module so far, and `names` is what its names are resolved against.
 /// The types of values whose type isn't spelled are numbered after the spelled ones. The error is the first fault of a name, as
 /// `ir_body_names::beside_body` says, or running out of memory.
-pub fn resolve<'a>(
+pub fn resolve(
     alloc: Global,
-    values: &'a Initializers<'a>,
-    names: &'a Names<'a>,
+    values: &Initializers,
+    names: &Names,
     function: &SpelledFunction,
 ) -> Result<Function, NamesError>
     requires ready { IsReady values.now }

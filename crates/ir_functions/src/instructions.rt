@@ -30,7 +30,7 @@ fn first_token(instruction: &SpelledInstruction) -> Token
     instruction.result.unwrap_or(instruction.word)
 }
 
-impl<'a, 'b, 'c> Resolver<'a, 'b, 'c> {
+impl<'a, 'n, 'k, 'v, 'c> Resolver<'a, 'n, 'k, 'v, 'c> {
     /// The first debug location among attachments.
     fn debug_location(&self, attachments: &[SpelledAttachment]) -> Option<DbgRef>
         ensures { result ≡ debug_location (scope_in self.now) attachments.now }

@@ -18,7 +18,7 @@ mod resolver;
 mod rows;
 mod values;
 
-pub use functions::{SpelledFunction, resolve};
+pub use functions::{SpelledFunction, function_of, resolve};
 pub use laws::functions_have_registers_and_variables;
 
 #[cfg(test)]

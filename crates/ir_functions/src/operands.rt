@@ -46,7 +46,7 @@ fn placed_constant(ty: u32, place: Place, operand: Option<Operand>) -> Placed
     }
 }
 
-impl<'a, 'b, 'c> Resolver<'a, 'b, 'c> {
+impl<'a, 'n, 'k, 'v, 'c> Resolver<'a, 'n, 'k, 'v, 'c> {
     /// The bytes of a token.
     pub(crate) fn token_bytes(&self, token: &Token) -> &[u8]
         ensures { result.now ≡ token_bytes (scope_in self.now) token.now }

@@ -14,7 +14,7 @@ use ir_core::{Op, Placed, Token};
 use ir_grammar::{SpelledOperand, SpelledOperation, TypedOperand};
 use std::alloc::Global;
 
-impl<'a, 'b, 'c> Resolver<'a, 'b, 'c> {
+impl<'a, 'n, 'k, 'v, 'c> Resolver<'a, 'n, 'k, 'v, 'c> {
     /// The count of a variable, where it is spelled.
     pub(crate) fn count(
         &self,

@@ -7,13 +7,13 @@ use ir_names::Index;
 
 /// What the names in a function are resolved by.
 #[derive(Drop)]
-pub(crate) struct Resolver<'a, 'b, 'c> {
-    pub(crate) names: &'a Names<'a>,
-    pub(crate) values: &'a Initializers<'a>,
+pub(crate) struct Resolver<'a, 'n, 'k, 'v, 'c> {
+    pub(crate) names: &'a Names<'n, 'k>,
+    pub(crate) values: &'a Initializers<'v>,
     /// The keys of what the function defines.
-    pub(crate) index: &'b Index<'c>,
+    pub(crate) index: &'a Index<'c>,
     /// The number of each definition among those of its kind.
-    pub(crate) numbers: &'b [u32],
+    pub(crate) numbers: &'a [u32],
     ghost functions: { length names.now.functions.now < 2 ^ 32 },
     ghost declares: { length names.now.declares.now < 2 ^ 32 },
     ghost nodes: { length names.now.nodes.now < 2 ^ 32 },

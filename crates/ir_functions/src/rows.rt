@@ -8,7 +8,7 @@ use ir_core::{CaseList, PhiEntryList, PlacedList};
 use ir_grammar::{SpelledCase, SpelledIncoming, TypedOperand};
 use std::alloc::Global;
 
-impl<'a, 'b, 'c> Resolver<'a, 'b, 'c> {
+impl<'a, 'n, 'k, 'v, 'c> Resolver<'a, 'n, 'k, 'v, 'c> {
     /// Operands with their spelled types.
     pub(crate) fn typed_row(
         &self,

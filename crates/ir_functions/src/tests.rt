@@ -101,6 +101,9 @@ fn tokens_of<'a>(alloc: Global, text: &'a [u8]) -> Result<Tokens<'a>, Fail> {
 
 /// The body that begins at a token.
 fn body_at(alloc: Global, tokens: &Tokens, text: &[u8], at: usize) -> Result<Body, Fail> {
+    if text.len() > 16777216 {
+        return Err(Fail::from("too long"));
+    }
     let sentence = terminals(alloc, tokens, ir_lex::end_of(text))?;
     if at > sentence.len() {
         return Err(Fail::from("no body"));

@@ -66,7 +66,7 @@ fn access_size_of(types: &[IrType], ty: u32) -> u32
     }
 }
 
-impl<'a, 'b, 'c> Resolver<'a, 'b, 'c> {
+impl<'a, 'n, 'k, 'v, 'c> Resolver<'a, 'n, 'k, 'v, 'c> {
     /// How many types are spelled.
     pub(crate) fn spelled_types(&self) -> u32
         ensures value { result ≡ spelled_types (scope_in self.now) }

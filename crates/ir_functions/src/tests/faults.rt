@@ -1,13 +1,16 @@
 use super::*;
+use ir_names::NameFault;
 
-/// The first fault of a name in a body as FAULT LINE:COLUMN, or `none`.
-fn fault(alloc: Global, text: &[u8]) -> Result<String, Fail> {
-    let tokens = tokens_of(alloc, text)?;
-    let (header, at) = header_of(alloc, text, tokens.as_slice())?;
-    let body = body_at(alloc, &tokens, text, at)?;
-    let functions = Index::new(alloc, &header.functions)?;
-    let declares = Index::new(alloc, &header.declares)?;
-    let nodes = Index::new(alloc, &header.nodes)?;
+/// The first fault of a name in a body, by the keys of the functions and nodes that its names may mean.
+fn first_fault<'k>(
+    alloc: Global,
+    text: &[u8],
+    header: &Header,
+    body: &Body,
+    functions: &Index<'k>,
+    declares: &Index<'k>,
+    nodes: &Index<'k>,
+) -> Result<Option<NameFault>, Fail> {
     let found = &body.raw.found;
     let mut numbers = Vec::new(alloc);
     let mut n: u32 = 0;
@@ -20,12 +23,23 @@ fn fault(alloc: Global, text: &[u8]) -> Result<String, Fail> {
         types: &found.types,
         numbers: &numbers,
         bodies: &found.bodies,
-        functions: &functions,
-        declares: &declares,
-        nodes: &nodes,
+        functions: &*functions,
+        declares: &*declares,
+        nodes: &*nodes,
         kinds: &header.kinds,
     };
-    match beside_body(alloc, &names, &header.parameters, &body.raw.blocks, None)? {
+    Ok(beside_body(alloc, &names, &header.parameters, &body.raw.blocks, None)?)
+}
+
+/// The first fault of a name in a body as FAULT LINE:COLUMN, or `none`.
+fn fault(alloc: Global, text: &[u8]) -> Result<String, Fail> {
+    let tokens = tokens_of(alloc, text)?;
+    let (header, at) = header_of(alloc, text, tokens.as_slice())?;
+    let body = body_at(alloc, &tokens, text, at)?;
+    let functions = Index::new(alloc, &header.functions)?;
+    let declares = Index::new(alloc, &header.declares)?;
+    let nodes = Index::new(alloc, &header.nodes)?;
+    match first_fault(alloc, text, &header, &body, &functions, &declares, &nodes)? {
         None => Ok(String::from_str(alloc, "none")?),
         Some(fault) => {
             let (word, place) = (fault.fault.word(), fault.at.place);

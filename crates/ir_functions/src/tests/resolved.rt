@@ -375,20 +375,23 @@ fn resolved(
     }
 }
 
-/// The function of a text, shown.
-fn shown(alloc: Global, text: &[u8]) -> Result<String, Fail> {
-    let tokens = tokens_of(alloc, text)?;
-    let (header, at) = header_of(alloc, text, tokens.as_slice())?;
-    let body = body_at(alloc, &tokens, text, at)?;
-    let functions = Index::new(alloc, &header.functions)?;
-    let declares = Index::new(alloc, &header.declares)?;
-    let nodes = Index::new(alloc, &header.nodes)?;
+/// The function of a body, shown, by the keys of the functions and nodes that its names may mean.
+fn shown_by<'k>(
+    alloc: Global,
+    text: &[u8],
+    header: &Header,
+    body: &Body,
+    name: Token,
+    functions: &Index<'k>,
+    declares: &Index<'k>,
+    nodes: &Index<'k>,
+) -> Result<String, Fail>
+    requires functions { length functions.now < 2 ^ 31 }
+    requires declares { length declares.now < 2 ^ 31 }
+    requires nodes { length nodes.now < 2 ^ 31 }
+{
     let found = &body.raw.found;
-    if found.types.len() >= 1 << 31
-        || header.functions.len() >= 1 << 31
-        || header.declares.len() >= 1 << 31
-        || header.nodes.len() >= 1 << 31
-    {
+    if found.types.len() >= 1 << 31 {
         return Err(Fail::from("too long"));
     }
     let module = module_of(alloc, found, header.declares.len())?;
@@ -399,9 +402,9 @@ fn shown(alloc: Global, text: &[u8]) -> Result<String, Fail> {
         types: &found.types,
         numbers: &numbers,
         bodies: &found.bodies,
-        functions: &functions,
-        declares: &declares,
-        nodes: &nodes,
+        functions: &*functions,
+        declares: &*declares,
+        nodes: &*nodes,
         kinds: &header.kinds,
     };
     let offsets = FieldOffsets::new(alloc, &module)?;
@@ -414,9 +417,6 @@ fn shown(alloc: Global, text: &[u8]) -> Result<String, Fail> {
         classes: &[],
         variables: &variables,
     };
-    let Some(name) = tokens.get(0) else {
-        return Err(Fail::from("no name"));
-    };
     let function = SpelledFunction {
         name,
         result: 0,
@@ -424,6 +424,28 @@ fn shown(alloc: Global, text: &[u8]) -> Result<String, Fail> {
         blocks: &body.raw.blocks,
     };
     resolved(alloc, &names, &values, &function)
+}
+
+/// The function of a text, shown.
+fn shown(alloc: Global, text: &[u8]) -> Result<String, Fail> {
+    let tokens = tokens_of(alloc, text)?;
+    let (header, at) = header_of(alloc, text, tokens.as_slice())?;
+    let body = body_at(alloc, &tokens, text, at)?;
+    let Some(name) = tokens.get(0) else {
+        return Err(Fail::from("no name"));
+    };
+    if header.functions.len() >= 1 << 31
+        || header.declares.len() >= 1 << 31
+        || header.nodes.len() >= 1 << 31
+    {
+        return Err(Fail::from("too long"));
+    }
+    let functions = Index::new(alloc, &header.functions)?;
+    let declares = Index::new(alloc, &header.declares)?;
+    let nodes = Index::new(alloc, &header.nodes)?;
+    shown_by(
+        alloc, text, &header, &body, name, &functions, &declares, &nodes,
+    )
 }
 
 fn check_rows(rt: &impl Abort, alloc: Global, rows: &[(&str, &str)]) -> Result<(), Fail> {
