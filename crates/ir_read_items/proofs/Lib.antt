@@ -1,5 +1,9 @@
+pub mod BlockRows
+pub mod Calm
 pub mod DefineLists
 pub mod ItemLists
+pub mod ItemRows
 pub mod ItemsKept
 pub mod ModuleClear
+pub mod Runs
 pub mod Spelled

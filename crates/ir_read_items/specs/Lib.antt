@@ -1,3 +1,4 @@
 pub mod ItemLaws
 pub mod ItemReading
 pub mod Items
+pub mod Rows

@@ -12,7 +12,7 @@ mod laws;
 mod nodes;
 mod whole;
 
-pub use laws::texts_are_modules;
+pub use laws::{bodies_lie_in_rows, texts_are_modules};
 pub use whole::read_items;
 
 #[cfg(test)]
