@@ -36,11 +36,11 @@ module _ (space : AddressSpace) (x : Placed) where
   with_fresh = with_fresh_object space x.at x.size x.tag
 
   -- what the last byte of a short granule leaves as it is
-  last-other : (ranges : List Range) (address : ℕ) (bit : Bool) → (bit ≡ false → address ≢ x.at + rounded_size x.size - 1) → byte_at (if bit then ranges else set_byte ranges (x.at + rounded_size x.size - 1) x.tag) address ≡ byte_at ranges address
+  pub last-other : (ranges : List Range) (address : ℕ) (bit : Bool) → (bit ≡ false → address ≢ x.at + rounded_size x.size - 1) → byte_at (if bit then ranges else set_byte ranges (x.at + rounded_size x.size - 1) x.tag) address ≡ byte_at ranges address
   last-other ranges address true other = refl
   last-other ranges address false other = byte_at-set_other ranges (x.at + rounded_size x.size - 1) address x.tag (other refl)
 
-  last-some : (ranges : List Range) (address : ℕ) (bit : Bool) → is_some (byte_at (if bit then ranges else set_byte ranges (x.at + rounded_size x.size - 1) x.tag) address) ≡ is_some (byte_at ranges address)
+  pub last-some : (ranges : List Range) (address : ℕ) (bit : Bool) → is_some (byte_at (if bit then ranges else set_byte ranges (x.at + rounded_size x.size - 1) x.tag) address) ≡ is_some (byte_at ranges address)
   last-some ranges address true = refl
   last-some ranges address false = byte_at-set_some ranges (x.at + rounded_size x.size - 1) address x.tag
 
@@ -49,27 +49,36 @@ module _ (space : AddressSpace) (x : Placed) where
       last-some (write space.bytes x.at (replicate (rounded_size x.size) 0)) address (x.size % 16 == 0)
       ∙ write_some space.bytes x.at (replicate (rounded_size x.size) 0) address
 
+  -- a byte of the object isn't the last one of a short granule
+  pub last-apart : (i : ℕ) → i < x.size → (x.size % 16 == 0) ≡ false → x.at + i ≢ x.at + rounded_size x.size - 1
+  last-apart i below is same = by_test (eqb_tells (x.size % 16) 0)
+    where
+      by_test : (((x.size % 16 == 0) ≡ true) × (x.size % 16 ≡ 0)) ⊎ (((x.size % 16 == 0) ≡ false) × (x.size % 16 ≢ 0)) → ⊥
+      by_test (inl whole) = let wrong : true ≡ false = sym whole.0 ∙ is in absurd cc
+      by_test (inr short) = let other = short.1 in let ends = short-rounded x.size (omega (arith, other)) in omega (arith, below, ends, same)
+
+  -- a short granule ends in the tag
+  pub last-there : (ranges : List Range) → 0 < x.size % 16 → is_some (byte_at ranges (x.at + rounded_size x.size - 1)) ≡ true → byte_at (if (x.size % 16 == 0) then ranges else set_byte ranges (x.at + rounded_size x.size - 1) x.tag) (x.at + rounded_size x.size - 1) ≡ Some x.tag
+  last-there ranges short mapped = by_test (eqb_tells (x.size % 16) 0)
+    where
+      by_test : (((x.size % 16 == 0) ≡ true) × (x.size % 16 ≡ 0)) ⊎ (((x.size % 16 == 0) ≡ false) × (x.size % 16 ≢ 0)) → byte_at (if (x.size % 16 == 0) then ranges else set_byte ranges (x.at + rounded_size x.size - 1) x.tag) (x.at + rounded_size x.size - 1) ≡ Some x.tag
+      by_test (inl whole) = let none = whole.1 in absurd (omega (arith, none, short))
+      by_test (inr is) =
+          let (old, there) = some-byte (byte_at ranges (x.at + rounded_size x.size - 1)) mapped in
+          ap (λ (bit : Bool). byte_at (if bit then ranges else set_byte ranges (x.at + rounded_size x.size - 1) x.tag) (x.at + rounded_size x.size - 1)) is.0
+          ∙ byte_at-set_same ranges (x.at + rounded_size x.size - 1) old x.tag there
+
   pub fresh-zero : (i : ℕ) → i < x.size → is_some (byte_at space.bytes (x.at + i)) ≡ true → byte_at with_fresh.bytes (x.at + i) ≡ Some 0
   fresh-zero i below mapped =
       let whole = size-rounded x.size in
       let (old, there) = some-byte (byte_at space.bytes (x.at + i)) mapped in
-      last-other (write space.bytes x.at (replicate (rounded_size x.size) 0)) (x.at + i) (x.size % 16 == 0) (apart (eqb_tells (x.size % 16) 0))
+      last-other (write space.bytes x.at (replicate (rounded_size x.size) 0)) (x.at + i) (x.size % 16 == 0) (last-apart i below)
       ∙ write_inside space.bytes x.at (replicate (rounded_size x.size) 0) i old 0 there (get-replicated (rounded_size x.size) i 0 (omega (arith, below, whole)))
-    where
-      apart : (((x.size % 16 == 0) ≡ true) × (x.size % 16 ≡ 0)) ⊎ (((x.size % 16 == 0) ≡ false) × (x.size % 16 ≢ 0)) → (x.size % 16 == 0) ≡ false → x.at + i ≢ x.at + rounded_size x.size - 1
-      apart (inl whole) is same = let wrong : true ≡ false = sym whole.0 ∙ is in absurd cc
-      apart (inr short) is same = let other = short.1 in let ends = short-rounded x.size (omega (arith, other)) in omega (arith, below, ends, same)
 
   pub fresh-last : 0 < x.size % 16 → is_some (byte_at space.bytes (x.at + rounded_size x.size - 1)) ≡ true → byte_at with_fresh.bytes (x.at + rounded_size x.size - 1) ≡ Some x.tag
-  fresh-last short mapped = by_test (eqb_tells (x.size % 16) 0)
-    where
-      by_test : (((x.size % 16 == 0) ≡ true) × (x.size % 16 ≡ 0)) ⊎ (((x.size % 16 == 0) ≡ false) × (x.size % 16 ≢ 0)) → byte_at with_fresh.bytes (x.at + rounded_size x.size - 1) ≡ Some x.tag
-      by_test (inl whole) = let none = whole.1 in absurd (omega (arith, none, short))
-      by_test (inr is) =
-          let zeros = write space.bytes x.at (replicate (rounded_size x.size) 0) in
-          let (old, there) = some-byte (byte_at zeros (x.at + rounded_size x.size - 1)) (write_some space.bytes x.at (replicate (rounded_size x.size) 0) (x.at + rounded_size x.size - 1) ∙ mapped) in
-          ap (λ (bit : Bool). byte_at (if bit then zeros else set_byte zeros (x.at + rounded_size x.size - 1) x.tag) (x.at + rounded_size x.size - 1)) is.0
-          ∙ byte_at-set_same zeros (x.at + rounded_size x.size - 1) old x.tag there
+  fresh-last short mapped =
+      last-there (write space.bytes x.at (replicate (rounded_size x.size) 0)) short
+      (write_some space.bytes x.at (replicate (rounded_size x.size) 0) (x.at + rounded_size x.size - 1) ∙ mapped)
 
   -- outside its rounded size nothing changes
   pub fresh-outside : (address : ℕ) → (address < x.at) ⊎ (x.at + rounded_size x.size ≤ address) → byte_at with_fresh.bytes address ≡ byte_at space.bytes address
@@ -157,7 +166,7 @@ pub record AreFresh (objects : List Placed) : Type 0 where
   pub aligned : (k : ℕ) (x : Placed) → slice_get objects k ≡ Some x → x.at % 16 ≡ 0
   pub apart : (k j : ℕ) (x y : Placed) → slice_get objects k ≡ Some x → slice_get objects j ≡ Some y → AreApart x y ⊎ (k ≡ j)
 
-fresh-later : (x : Placed) (xs : List Placed) → AreFresh (x ∷ xs) → AreFresh xs
+pub fresh-later : (x : Placed) (xs : List Placed) → AreFresh (x ∷ xs) → AreFresh xs
 fresh-later x xs fresh =
     record {
       aligned = λ k y h. fresh.aligned (suc k) y h;
@@ -165,7 +174,7 @@ fresh-later x xs fresh =
     }
 
 -- an address of the first object is outside the later ones
-first-outside : (x : Placed) (xs : List Placed) (address : ℕ) → AreFresh (x ∷ xs) → x.at ≤ address → address < x.at + rounded_size x.size → (k : ℕ) (y : Placed) → slice_get xs k ≡ Some y → IsOutsideOf address y
+pub first-outside : (x : Placed) (xs : List Placed) (address : ℕ) → AreFresh (x ∷ xs) → x.at ≤ address → address < x.at + rounded_size x.size → (k : ℕ) (y : Placed) → slice_get xs k ≡ Some y → IsOutsideOf address y
 first-outside x xs address fresh low high k y h =
     elim (fresh.apart 0 (suc k) x y refl h) [
       | inl apart ↦ elim apart [ inl before ↦ inl (omega (arith, before, high)) | inr after ↦ inr (omega (arith, after, low)) ]

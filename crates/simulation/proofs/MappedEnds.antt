@@ -24,7 +24,7 @@ unfolding write
 write-ends ranges address [] = refl
 write-ends ranges address (byte ∷ bytes) = write-ends (set_byte ranges address byte) (address + 1) bytes ∙ set-ends ranges address byte
 
-last-ends : (ranges : List Range) (address tag : ℕ) (bit : Bool) → mapped_end (if bit then ranges else set_byte ranges address tag) ≡ mapped_end ranges
+pub last-ends : (ranges : List Range) (address tag : ℕ) (bit : Bool) → mapped_end (if bit then ranges else set_byte ranges address tag) ≡ mapped_end ranges
 last-ends ranges address tag true = refl
 last-ends ranges address tag false = set-ends ranges address tag
 

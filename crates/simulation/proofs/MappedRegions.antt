@@ -1,13 +1,23 @@
--- The heap and the stacks are mapped, and lie past the constants.
+-- Constants and variables are mapped; and so are the heap and the stacks, which lie past the constants.
 use Rattle.std.proofs.Common.{◌≡◌, ℕ, ◌+◌, ◌*◌, ◌<◌, ◌≤◌, ◌||◌, Bool, true, false, refl, arith}
 use Rattle.std.proofs.lemmas.Bool.Decides.{nat_tests}
 use Rattle.global_tags.specs.GlobalPlaces.{constants_size, variables_at, variables_size}
+use Rattle.hw_base.specs.AddressMap.{rounded_size}
 use Rattle.ir_meaning.specs.Births.{Stack, Heap}
 use Rattle.tag_story.proofs.BirthPlaces.{stack-inside}
 use Rattle.tag_story.specs.Story.{StorySetting, Placed}
 use Rattle.tag_story.specs.StoryFacts.{HasRoom, IsInRegion}
 use Rattle.tbi_memory.specs.AddressSpace.{is_in}
 use Rattle.simulation.proofs.BirthRelated.{IsInMap}
+
+any-first : (a b c d : Bool) → a ≡ true → (a || (b || (c || (d || false)))) ≡ true
+any-first true b c d h = refl
+any-first false b c d h = absurd cc
+
+any-second : (a b c d : Bool) → b ≡ true → (a || (b || (c || (d || false)))) ≡ true
+any-second true b c d h = refl
+any-second false true c d h = refl
+any-second false false c d h = absurd cc
 
 any-third : (a b c d : Bool) → c ≡ true → (a || (b || (c || (d || false)))) ≡ true
 any-third true b c d h = refl
@@ -34,6 +44,18 @@ in_stacks e address = is_in address (record { at = e.places.stacks_at; count = e
 
 abbrev in_heap : StorySetting → ℕ → Bool
 in_heap e address = is_in address (record { at = e.places.heap_at; count = e.places.heap_length })
+
+pub constant-mapped : (e : StorySetting) (x : Placed) → e.places.globals_at ≤ x.at → x.at + rounded_size x.size ≤ e.places.globals_at + constants_size e.program.layouts e.program.globals → IsInMap e x
+constant-mapped e x from to address low high =
+    let first : e.places.globals_at ≤ address = omega (arith, from, low) in
+    let last : address < e.places.globals_at + constants_size e.program.layouts e.program.globals = omega (arith, to, high) in
+    any-first (in_constants e address) (in_variables e address) (in_stacks e address) (in_heap e address) (let here : is_in address (record { at = e.places.globals_at; count = constants_size e.program.layouts e.program.globals }) ≡ true = grind (arith, nat_tests) in here)
+
+pub variable-mapped : (e : StorySetting) (x : Placed) → variables_at e.places e.program.layouts e.program.globals ≤ x.at → x.at + rounded_size x.size ≤ variables_at e.places e.program.layouts e.program.globals + variables_size e.program.layouts e.program.globals → IsInMap e x
+variable-mapped e x from to address low high =
+    let first : variables_at e.places e.program.layouts e.program.globals ≤ address = omega (arith, from, low) in
+    let last : address < variables_at e.places e.program.layouts e.program.globals + variables_size e.program.layouts e.program.globals = omega (arith, to, high) in
+    any-second (in_constants e address) (in_variables e address) (in_stacks e address) (in_heap e address) (let here : is_in address (record { at = variables_at e.places e.program.layouts e.program.globals; count = variables_size e.program.layouts e.program.globals }) ≡ true = grind (arith, nat_tests) in here)
 
 pub heap-mapped : (e : StorySetting) (task : ℕ) (x : Placed) → IsInRegion e Heap task x → IsInMap e x
 heap-mapped e task x inside address low high =

@@ -127,7 +127,7 @@ module _ (setting : MachineSetting) (is : IsSetting setting) (related : SharedRe
     start-by : (r : Result Story Full) (q : Result AfterEntry Full) → Enters setting (told_at_start setting) (shared_at_start setting) setting.program.main 0 1 f (main_arguments f.params) (main_numbers f.params) [] 0 entry r q
         → FollowsWorldStep setting (told_from r) (main_entered setting q)
     start-by _ _ (goes story after has) = (first_world after.shared (frame_for setting.code setting.program.main after.place [] 0 ∷ []), refl, worlds-related story after has)
-    start-by _ _ (full why) = (first_world (shared_at_start setting) [], refl)
+    start-by _ _ (full why) = (first_world (shared_at_start setting) [], refl, refl)
 
   pub start-follows : FollowsWorldStep setting (told_start (story_setting setting)) (machine_start setting)
   unfolding told_start source_start machine_start

@@ -22,7 +22,7 @@ use Rattle.simulation.proofs.EachStep.{every-step-followed}
 use Rattle.simulation.proofs.LibraryParts.{frames-stay}
 use Rattle.simulation.proofs.TablesKept.{each-map}
 use Rattle.simulation.specs.Following.{KeepsOthers, KeepsOlder, Follows, FollowsEnding, FollowsJudged}
-use Rattle.simulation.specs.FollowingRuns.{EndsJudged, EndsAs, FollowsWorldStep, FollowsRun}
+use Rattle.simulation.specs.FollowingRuns.{printed_in, machine_printed, PrintsBefore, EndsJudged, EndsAs, FollowsWorldStep, FollowsRun}
 use Rattle.simulation.specs.Parts.{AreEach, AreStarted}
 use Rattle.simulation.specs.Relation.{IsSetting, HasTables, SharedRelated, FramesRelated, OwnsFrames, SeenRelated, WorldRelated, story_setting}
 
@@ -156,18 +156,21 @@ module _ (setting : MachineSetting) (is : IsSetting setting) (t : ToldWorld) (m 
   many-finished : length (finished_of t.tasks) ≡ length t.tasks
   many-finished = length-map _ _
 
+  same-step : m.steps + 1 ≡ t.steps + 1
+  same-step = ap (λ n. n + 1) related.steps
+
   judged-lifted : (k : ℕ) (judgement : Judgement) (told : ToldShared) (frames : List SourceFrame) (v : Rattle.ir_meaning.specs.State.Violation) (printed : List ℕ) (r : MachineOutcome) → FollowsJudged judgement told.story v (counted t).steps printed r
-      → EndsJudged judgement (kept (counted t) k told frames) v (λ n e. lifted (counted m) k [] r ≡ Last n printed e)
+      → EndsJudged judgement (kept (counted t) k told frames) v (λ n e. lifted (counted m) k [] r ≡ Last n printed e) (Unit {0})
   judged-lifted k (Passes coincidence) told frames v printed r h = tt
-  judged-lifted k (Refused refused) told frames v printed r h = let (shared, gone, raw, same, reports) = h in (kept (counted m) k shared gone, raw, ap (lifted (counted m) k []) same, reports)
+  judged-lifted k (Refused refused) told frames v printed r h = let (shared, gone, raw, same, reports) = h in (kept (counted m) k shared gone, raw, ap (lifted (counted m) k []) same, reports, same-step)
 
   ending-lifted : (k : ℕ) (told : ToldShared) (frames : List SourceFrame) (printed : List ℕ) (ending : ToldEnding) (r : MachineOutcome) → FollowsEnding setting told (counted t).steps printed ending r
-      → EndsAs setting (kept (counted t) k told frames) ending (λ n e. lifted (counted m) k [] r ≡ Last n printed e)
-  ending-lifted k told frames printed (AsSource (Exited n)) r h = let (shared, gone, same) = h in (kept (counted m) k shared gone, ap (lifted (counted m) k []) same)
-  ending-lifted k told frames printed (AsSource (Trapped trap task chain)) r h = let (shared, gone, number, same, known) = h in (kept (counted m) k shared gone, number, ap (lifted (counted m) k []) same, known)
+      → EndsAs setting (kept (counted t) k told frames) ending (λ n e. lifted (counted m) k [] r ≡ Last n printed e) (Unit {0})
+  ending-lifted k told frames printed (AsSource (Exited n)) r h = let (shared, gone, same) = h in (kept (counted m) k shared gone, ap (lifted (counted m) k []) same, same-step)
+  ending-lifted k told frames printed (AsSource (Trapped trap task chain)) r h = let (shared, gone, number, same, known) = h in (kept (counted m) k shared gone, number, ap (lifted (counted m) k []) same, known, same-step)
   ending-lifted k told frames printed (AsSource (Violated v)) r h = judged-lifted k (judged (story_setting setting) told.story told.source.births v) told frames v printed r h
   ending-lifted k told frames printed (AsSource (Outside reason task chain)) r h = tt
-  ending-lifted k told frames printed (IsFull full) r h = let (shared, gone, same) = h in (kept (counted m) k shared gone, ap (lifted (counted m) k []) same)
+  ending-lifted k told frames printed (IsFull full) r h = let (shared, gone, same) = h in (kept (counted m) k shared gone, ap (lifted (counted m) k []) same, same-step)
 
   counted-related : WorldRelated setting (counted t) (counted m)
   counted-related =
@@ -242,21 +245,41 @@ module _ (setting : MachineSetting) (is : IsSetting setting) (t : ToldWorld) (m 
 
 -- ---- runs
 
-ends-map : (setting : MachineSetting) (t : ToldWorld) (ending : ToldEnding) (P Q : MachineWorld → MachineEnding → Type 0) → ((m : MachineWorld) (e : MachineEnding) → P m e → Q m e) → EndsAs setting t ending P → EndsAs setting t ending Q
-ends-map setting t (AsSource (Exited n)) P Q go h = let (m, is) = h in (m, go m _ is)
-ends-map setting t (AsSource (Trapped trap task chain)) P Q go h = let (m, number, is, known) = h in (m, number, go m _ is, known)
-ends-map setting t (AsSource (Violated v)) P Q go h = by_judgement (judged (story_setting setting) t.shared.story t.shared.source.births v) h
+ends-map : (setting : MachineSetting) (t : ToldWorld) (ending : ToldEnding) (P Q : MachineWorld → MachineEnding → Type 0) (A B : Type 0) → ((m : MachineWorld) (e : MachineEnding) → P m e → Q m e) → (A → B) → EndsAs setting t ending P A → EndsAs setting t ending Q B
+ends-map setting t (AsSource (Exited n)) P Q A B go on h = let (m, is, same) = h in (m, go m _ is, same)
+ends-map setting t (AsSource (Trapped trap task chain)) P Q A B go on h = let (m, number, is, known, same) = h in (m, number, go m _ is, known, same)
+ends-map setting t (AsSource (Violated v)) P Q A B go on h = by_judgement (judged (story_setting setting) t.shared.story t.shared.source.births v) h
   where
-    by_judgement : (judgement : Judgement) → EndsJudged judgement t v P → EndsJudged judgement t v Q
-    by_judgement (Passes coincidence) is = tt
-    by_judgement (Refused refused) is = let (m, raw, same, reports) = is in (m, raw, go m _ same, reports)
-ends-map setting t (AsSource (Outside reason task chain)) P Q go h = tt
-ends-map setting t (IsFull full) P Q go h = let (m, is) = h in (m, go m _ is)
+    by_judgement : (judgement : Judgement) → EndsJudged judgement t v P A → EndsJudged judgement t v Q B
+    by_judgement (Passes coincidence) is = on is
+    by_judgement (Refused refused) is = let (m, raw, own, reports, same) = is in (m, raw, go m _ own, reports, same)
+ends-map setting t (AsSource (Outside reason task chain)) P Q A B go on h = on h
+ends-map setting t (IsFull full) P Q A B go on h = let (m, is, same) = h in (m, go m _ is, same)
+
+-- what a run prints after one more step
+printed-after : (printed : List ℕ) (r : MachineRun) → r ≢ IsStuck → machine_printed (after_report printed r) ≡ printed ∷ machine_printed r
+printed-after printed (Spent m all) goes = refl
+printed-after printed (Ended m all ending) goes = refl
+printed-after printed IsStuck goes = absurd (goes refl)
+
+before-after : (report : SourceReport) (reports : List SourceReport) (r : MachineRun) → (r ≢ IsStuck → PrintsBefore reports r) → after_report report.printed r ≢ IsStuck → PrintsBefore (report ∷ reports) (after_report report.printed r)
+before-after report reports r before goes =
+    let going : r ≢ IsStuck = λ stuck. goes (ap (after_report report.printed) stuck) in
+    let rest = before going in
+    record {
+      earlier = report ∷ rest.earlier;
+      last = rest.last;
+      all = ap (λ xs. report ∷ xs) rest.all;
+      more = rest.more;
+      printed = printed-after report.printed r going ∙ ap (λ xs. report.printed ∷ xs) rest.printed;
+    }
 
 -- one more report before the others
 after-report-follows : (setting : MachineSetting) (report : SourceReport) (o : ToldRunOutcome) (r : MachineRun) → FollowsRun setting o r → FollowsRun setting (after_report report o) (after_report report.printed r)
 after-report-follows setting report (Spent t reports) r h = let (m, same, related) = h in (m, ap (after_report report.printed) same, related)
-after-report-follows setting report (Ended t reports ending) r h = ends-map setting t ending _ _ (λ m e same. ap (after_report report.printed) same) h
+after-report-follows setting report (Ended t reports ending) r h =
+    ends-map setting t ending (λ m e. r ≡ Ended m (printed_in reports) e) (λ m e. after_report report.printed r ≡ Ended m (printed_in (report ∷ reports)) e) (r ≢ IsStuck → PrintsBefore reports r) (after_report report.printed r ≢ IsStuck → PrintsBefore (report ∷ reports) (after_report report.printed r))
+    (λ m e same. ap (after_report report.printed) same) (before-after report reports r) h
 after-report-follows setting report IsStuck r h = tt
 
 module _ (setting : MachineSetting) (is : IsSetting setting) (turns : ℕ → ℕ) where
@@ -266,7 +289,9 @@ module _ (setting : MachineSetting) (is : IsSetting setting) (turns : ℕ → �
   after-step-follows go on follows (Next t report) r h =
       let (m, same, related) = h in
       subst (λ step. FollowsRun setting (after_report report (go t)) (after_step on step)) (sym same) (after-report-follows setting report (go t) (on m) (follows t m related))
-  after-step-follows go on follows (Last t report ending) r h = ends-map setting t ending _ _ (λ m e same. ap (after_step on) same) h
+  after-step-follows go on follows (Last t report ending) r h =
+      ends-map setting t ending (λ m e. r ≡ Last m report.printed e) (λ m e. after_step on r ≡ Ended m (printed_in (report ∷ [])) e) (Unit {0}) (after_step on r ≢ IsStuck → PrintsBefore (report ∷ []) (after_step on r))
+      (λ m e same. ap (after_step on) same) (λ _ goes. record { earlier = []; last = report; all = refl; more = machine_printed (after_step on r); printed = refl }) h
   after-step-follows go on follows NoStep r h = tt
 
   pub run-follows : (bound : ℕ) (t : ToldWorld) (m : MachineWorld) → WorldRelated setting t m → FollowsRun setting (run_from (told_step (story_setting setting) setting.input) nothing_happened turns bound t) (run_from (step_in setting) [] turns bound m)
