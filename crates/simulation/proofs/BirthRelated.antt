@@ -22,7 +22,7 @@ use Rattle.tbi_memory.specs.AddressSpace.{AddressSpace, is_in, mapped_ranges}
 use Rattle.tbi_memory.specs.MappedBytes.{byte_at}
 use Rattle.simulation.proofs.BirthLists.{told_birth, IsNewObject, object-cases, object-below, new-byte, placed-cases, placed-below, new-there, same-number}
 use Rattle.simulation.proofs.BirthOwners.{CoverNot, OneCovers, one-or-none, from-pushed}
-use Rattle.simulation.proofs.ComparisonFollows.{size-rounded, short-rounded}
+use Rattle.simulation.proofs.Sizes.{size-rounded, short-rounded}
 use Rattle.simulation.proofs.FinePasses.{owned}
 use Rattle.simulation.proofs.FreshMemory.{with_all_fresh, AreFresh, all-mapped, all-outside, all-tags_other, all-zero, all-last, all-tags}
 use Rattle.simulation.proofs.Images.{stays-born, byte-stays, known_byte-stays}

@@ -21,7 +21,7 @@ use Rattle.tag_story.specs.ToldRun.{ToldShared}
 use Rattle.tbi_memory.specs.AddressSpace.{check}
 use Rattle.tbi_memory.specs.AddressSpace as memory
 use Rattle.tbi_memory.specs.MappedBytes.{byte_at}
-use Rattle.simulation.proofs.ComparisonFollows.{both, if-some}
+use Rattle.simulation.proofs.Sizes.{both, if-some}
 use Rattle.simulation.proofs.ObjectPlaces.{same-item}
 use Rattle.simulation.proofs.OwnedGranules.{IsOwner, owner-is}
 use Rattle.simulation.proofs.SameMismatches.{shown, first-same}

@@ -25,7 +25,7 @@ use Rattle.tag_story.specs.Story.{StorySetting, Story, Placed, StoryBirth, numbe
 use Rattle.tag_story.specs.StoryFacts.{IsLaidOut, IsObject}
 use Rattle.tag_story.specs.StoryTags.{Owner, covers, owner_in, owner_from, owner_of, owned_tag, tag_by, memory_tag, image_at, last_by, last_byte}
 use Rattle.simulation.proofs.ChecksAgree.{short-tag}
-use Rattle.simulation.proofs.ComparisonFollows.{size-rounded}
+use Rattle.simulation.proofs.Sizes.{size-rounded}
 use Rattle.simulation.proofs.ObjectPlaces.{IsPlacedAs, placed-as, placed-there}
 use Rattle.simulation.specs.Relation.{IsSetting, story_setting}
 use Rattle.simulation.specs.Checks.{lies_inside}

@@ -17,7 +17,7 @@ use Rattle.tbi_memory.proofs.SpaceLemmas.{fresh-bytes_below, fresh-bytes_above, 
 use Rattle.tbi_memory.specs.AddressSpace.{AddressSpace}
 use Rattle.tbi_memory.specs.MappedBytes.{Range, byte_at, set_byte, write}
 use Rattle.tbi_memory.specs.ObjectMemory.{with_fresh_object}
-use Rattle.simulation.proofs.ComparisonFollows.{size-rounded, short-rounded}
+use Rattle.simulation.proofs.Sizes.{size-rounded, short-rounded}
 
 -- what is mapped has a byte
 pub some-byte : (o : Option ℕ) → is_some o ≡ true → (old : ℕ) × (o ≡ Some old)

@@ -16,7 +16,7 @@ use Rattle.tag_story.specs.ToldRun.{ToldShared}
 use Rattle.tbi_memory.proofs.MappedBytesLemmas.{read_bytes-same}
 use Rattle.tbi_memory.specs.AddressSpace.{read}
 use Rattle.tbi_memory.specs.MappedBytes.{byte_at, read_bytes}
-use Rattle.simulation.proofs.ComparisonFollows.{size-rounded}
+use Rattle.simulation.proofs.Sizes.{size-rounded}
 use Rattle.simulation.proofs.FinePasses.{fine-object, fine-nothing}
 use Rattle.simulation.proofs.ListParts.{get-take, get-drop, get-map, length-part}
 use Rattle.simulation.proofs.ObjectPlaces.{IsPlacedAs, placed-as, placed-there}

@@ -19,7 +19,7 @@ use Rattle.tbi_memory.specs.AddressSpace.{AddressSpace, read, meets_constants, r
 use Rattle.tbi_memory.specs.MappedBytes.{write}
 use Rattle.tbi_memory.specs.declared.mem_fault.MemFault.{MemFault}
 use Rattle.tbi_memory.specs.declared.mem_fault.MemFault.TheVariants.{ReadOnly}
-use Rattle.simulation.proofs.ComparisonFollows.{size-rounded}
+use Rattle.simulation.proofs.Sizes.{size-rounded}
 use Rattle.simulation.proofs.FinePasses.{fine-object, fine-nothing}
 use Rattle.simulation.proofs.ObjectPlaces.{IsPlacedAs, placed-as, placed-there}
 use Rattle.simulation.proofs.ReadImages.{fine-read}

@@ -17,7 +17,7 @@ use Rattle.tag_story.specs.StoryFacts.{AreApart}
 use Rattle.tag_story.specs.ToldRun.{ToldShared}
 use Rattle.tbi_memory.proofs.MappedBytesLemmas.{write_below, write_above, write_inside, write_some}
 use Rattle.tbi_memory.specs.MappedBytes.{Range, byte_at, write}
-use Rattle.simulation.proofs.ComparisonFollows.{size-rounded, short-rounded}
+use Rattle.simulation.proofs.Sizes.{size-rounded, short-rounded}
 use Rattle.simulation.proofs.ObjectPlaces.{IsPlacedAs, placed-as, placed-there}
 use Rattle.simulation.proofs.MappedEnds.{write-ends}
 use Rattle.simulation.proofs.WrittenBytes.{IsNewByte, IsOldByte, written-cases, put-cases}

@@ -1,10 +1,5 @@
 pub mod Checks
-pub mod Detection
-pub mod Following
-pub mod FollowingRuns
 pub mod Images
 pub mod Parts
-pub mod RegisterSteps
 pub mod Relation
-pub mod SmallProgram
 pub mod Writes

@@ -1,0 +1,12 @@
+pub mod Detected
+pub mod GlobalsAtStart
+pub mod LoadedGlobals
+pub mod ProgramSettings
+pub mod QuietEndings
+pub mod QuietFaults
+pub mod SmallProgramRuns
+pub mod StartFollows
+pub mod StartMemory
+pub mod StartRelated
+pub mod StoryRuns
+pub mod WorldsFollow

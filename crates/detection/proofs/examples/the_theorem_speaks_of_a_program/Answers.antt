@@ -1,0 +1,34 @@
+use Rattle.std.proofs.Common.{ℕ, List, [], refl, arith}
+use Rattle.hw_tags.specs.Options.{IsHeapSize}
+use Rattle.hw_tags.specs.Word.{word}
+use Rattle.hw_tags.specs.declared.words_spec.WordsSpec.TheVariants.{Cycle}
+use Rattle.detection.proofs.Detected.{detected}
+use Rattle.detection.proofs.ProgramSettings.{program-setting}
+use Rattle.detection.proofs.SmallProgramRuns.{small_program-runnable}
+use Rattle.simulation.specs.Relation.{IsSetting}
+use Rattle.detection.specs.SmallProgram.{small_program, small_setting}
+use Rattle.tag_story.specs.ShownStory.{shown_judgement}
+use Rattle.detection.proofs.examples.the_theorem_speaks_of_a_program.Goals as goal
+
+small-heap : IsHeapSize 64
+small-heap = record { granules = refl; at_least = omega arith; at_most = omega arith }
+
+small-is : (tags : List ℕ) → IsSetting (small_setting tags)
+small-is tags = program-setting small_program 64 1 (word (Cycle tags)) [] small_program-runnable small-heap
+
+pub returns-clause-runs : goal.returns-clause-runs
+returns-clause-runs c = small_program-runnable
+
+pub returns-clause-has_settings : goal.returns-clause-has_settings
+returns-clause-has_settings c tags = small-is tags
+
+pub returns-clause-detects : goal.returns-clause-detects
+returns-clause-detects c tags turns bound = detected (small_setting tags) turns bound (small-is tags)
+
+pub returns-clause-refused : goal.returns-clause-refused
+unfolding shown_judgement
+returns-clause-refused c = refl
+
+pub returns-clause-missed : goal.returns-clause-missed
+unfolding shown_judgement
+returns-clause-missed c = refl

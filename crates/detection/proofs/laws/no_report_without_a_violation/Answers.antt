@@ -1,0 +1,13 @@
+use Rattle.hw_tags.specs.Word as words
+use Rattle.ir_machine.specs.Runs.{setting_of}
+use Rattle.detection.proofs.Detected.{fault-met}
+use Rattle.detection.proofs.ProgramSettings.{program-setting}
+use Rattle.detection.proofs.laws.no_report_without_a_violation.Goals as goal
+
+pub returns-clause-any_setting : goal.returns-clause-any_setting
+returns-clause-any_setting c setting turns bound last printed raw is report = fault-met setting turns bound is last printed raw report
+
+pub returns-clause-options : goal.returns-clause-options
+returns-clause-options c program options input last printed raw runnable report =
+    fault-met (setting_of program options input) (words.word options.turns) options.steps
+    (program-setting program options.heap options.ring (words.word options.tags) input runnable options.in_range.heap_in_range) last printed raw report

@@ -1,0 +1,3 @@
+pub mod Detection
+pub mod FollowingRuns
+pub mod SmallProgram

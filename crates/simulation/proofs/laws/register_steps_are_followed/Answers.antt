@@ -1,5 +1,0 @@
-use Rattle.simulation.proofs.RegisterSteps.{register_step-followed}
-use Rattle.simulation.proofs.laws.register_steps_are_followed.Goals as goal
-
-pub returns : goal.returns
-returns c setting t m f inst is at own related = register_step-followed setting t m f inst is at own related

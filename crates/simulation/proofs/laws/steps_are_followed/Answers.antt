@@ -1,5 +1,0 @@
-use Rattle.simulation.proofs.EachStep.{every-step-followed}
-use Rattle.simulation.proofs.laws.steps_are_followed.Goals as goal
-
-pub returns : goal.returns
-returns c setting t m is related = every-step-followed setting t m is related

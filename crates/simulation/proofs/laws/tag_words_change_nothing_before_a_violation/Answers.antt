@@ -1,7 +1,0 @@
-use Rattle.simulation.proofs.Detected.{prints-until, with_words-is}
-use Rattle.simulation.specs.Detection.{with_words}
-use Rattle.simulation.proofs.laws.tag_words_change_nothing_before_a_violation.Goals as goal
-
-pub returns : goal.returns
-returns c setting other turns bound is room also =
-    (prints-until setting turns bound is room, prints-until (with_words setting other) turns bound (with_words-is setting other is) also)
