@@ -1,5 +1,5 @@
 -- The machine follows each step of the run, and the whole run from related worlds.
-use Rattle.std.proofs.Common.{◌≡◌, ◌≢◌, ◌⊎◌, inl, inr, ℕ, zero, suc, ◌+◌, ◌≤◌, true, false, List, [], ◌∷◌, ◌++◌, length, map, slice_get, slice_set, Option, Some, None, option_map, refl, sym, ◌∙◌, ap, subst, arith}
+use Rattle.std.proofs.Common.{◌≡◌, ◌≢◌, ◌⊎◌, inl, inr, ℕ, zero, suc, ◌+◌, ◌≤◌, true, false, List, [], ◌∷◌, ◌++◌, length, map, slice_get, slice_set, Option, Some, None, option_map, refl, sym, ◌∙◌, ap, subst, arith, Result, Ok, Err}
 use Rattle.std.proofs.lemmas.Bool.{cases_eq}
 use Rattle.std.proofs.lemmas.List.{length-map, length-set, length-append}
 use Rattle.hw_tags.specs.InputState.{next_input}
@@ -9,12 +9,14 @@ use Rattle.dbg_sites.specs.ChainTable.{ChainEntry}
 use Rattle.ir_machine.specs.InstructionStep.{machine_step}
 use Rattle.ir_machine.specs.Runs.{step_in}
 use Rattle.ir_machine.specs.State.{MachineSetting, MachineShared, MachineOutcome, MachineWorld, MachineEnding, MachineWorldStep, MachineRun}
-use Rattle.ir_meaning.specs.State.{SourceFrame, SourceReport, Exited, Trapped, Violated, Outside, nothing_happened}
+use Rattle.hw_base.specs.declared.endings.Full.{Full}
+use Rattle.ir_meaning.specs.Runs.{step_under}
+use Rattle.ir_meaning.specs.State.{SourceFrame, SourceShared, SourceReport, SourceEnding, SourceOutcome, Exited, Trapped, Violated, Outside, nothing_happened}
 use Rattle.ir_tasks.specs.Frames.{Frame}
 use Rattle.tag_story.proofs.StoryLists.{pushed-cases, get-below}
 use Rattle.tag_story.specs.Judging.{judged}
-use Rattle.tag_story.specs.Story.{StoryBirth, OpenFrame}
-use Rattle.tag_story.specs.ToldRun.{ToldShared, ToldSeen, ToldEnding, AsSource, IsFull, ToldWorld, ToldOutcome, ToldWorldStep, ToldRunOutcome, told_step}
+use Rattle.tag_story.specs.Story.{StorySetting, Story, StoryBirth, OpenFrame}
+use Rattle.tag_story.specs.ToldRun.{ToldShared, ToldSeen, ToldEnding, AsSource, IsFull, ToldWorld, ToldOutcome, ToldWorldStep, ToldRunOutcome, told_step, source_seen, with_story, if_told, story_after, told_outcome}
 use Rattle.tag_story.specs.declared.judgement.Judgement.{Judgement}
 use Rattle.tag_story.specs.declared.judgement.Judgement.TheVariants.{Passes, Refused}
 use Rattle.tbi_memory.proofs.ListLemmas.{slice_get-set_at, slice_get-set_other}
@@ -22,9 +24,59 @@ use Rattle.step_simulation.proofs.EachStep.{every-step-followed}
 use Rattle.step_simulation.proofs.LibraryParts.{frames-stay}
 use Rattle.simulation.proofs.TablesKept.{each-map}
 use Rattle.step_simulation.specs.Following.{KeepsOthers, KeepsOlder, Follows, FollowsEnding, FollowsJudged}
+use Rattle.detection.proofs.QuietEndings.{IsQuiet}
+use Rattle.detection.proofs.QuietFaults.{source_step-quiet}
 use Rattle.detection.specs.FollowingRuns.{printed_in, machine_printed, PrintsBefore, EndsJudged, EndsAs, FollowsWorldStep, FollowsRun}
 use Rattle.simulation.specs.Parts.{AreEach, AreStarted}
 use Rattle.simulation.specs.Relation.{IsSetting, HasTables, SharedRelated, FramesRelated, OwnsFrames, SeenRelated, WorldRelated, story_setting}
+
+-- ---- steps that print nothing
+
+-- nothing is printed at an end by a violation or outside the profile
+abbrev PrintsNothingAt : ToldEnding → List ℕ → Type 0
+PrintsNothingAt (AsSource (Exited n)) printed = Unit {0}
+PrintsNothingAt (AsSource (Trapped trap task chain)) printed = Unit {0}
+PrintsNothingAt (AsSource (Violated v)) printed = printed ≡ []
+PrintsNothingAt (AsSource (Outside reason task chain)) printed = printed ≡ []
+PrintsNothingAt (IsFull full) printed = Unit {0}
+
+abbrev IsQuietTold : ToldOutcome → Type 0
+IsQuietTold (Goes t report) = Unit {0}
+IsQuietTold Stays = Unit {0}
+IsQuietTold (Starts t report frame) = Unit {0}
+IsQuietTold (Finishes t report) = Unit {0}
+IsQuietTold (Ends t frames report ending) = PrintsNothingAt ending report.printed
+IsQuietTold Stuck = Unit {0}
+
+ending-quiet : (shared : SourceShared) (frames : List SourceFrame) (report : SourceReport) (ending : SourceEnding) → IsQuiet (Ends shared frames report ending) → PrintsNothingAt (AsSource ending) report.printed
+ending-quiet shared frames report (Exited n) h = tt
+ending-quiet shared frames report (Trapped trap task chain) h = tt
+ending-quiet shared frames report (Violated v) h = h
+ending-quiet shared frames report (Outside reason task chain) h = h
+
+told-quiet : (e : StorySetting) (s : ToldSeen) (o : SourceOutcome) → IsQuiet o → IsQuietTold (told_outcome e s o)
+told-quiet e s (Goes next report) h = by_story (story_after e s report)
+  where
+    by_story : (r : Result Story Full) → IsQuietTold (if_told s r (λ w. Goes (with_story next w) report))
+    by_story (Ok w) = tt
+    by_story (Err full) = tt
+told-quiet e s Stays h = tt
+told-quiet e s (Starts next report frame) h = by_story (story_after e s report)
+  where
+    by_story : (r : Result Story Full) → IsQuietTold (if_told s r (λ w. Starts (with_story next w) report frame))
+    by_story (Ok w) = tt
+    by_story (Err full) = tt
+told-quiet e s (Finishes shared report) h = by_story (story_after e s report)
+  where
+    by_story : (r : Result Story Full) → IsQuietTold (if_told s r (λ w. Finishes (record { source = shared; story = w }) report))
+    by_story (Ok w) = tt
+    by_story (Err full) = tt
+told-quiet e s (Ends shared frames report ending) h = by_story (story_after e s report)
+  where
+    by_story : (r : Result Story Full) → IsQuietTold (if_told s r (λ w. Ends (record { source = shared; story = w }) frames report (AsSource ending)))
+    by_story (Ok w) = ending-quiet shared frames report ending h
+    by_story (Err full) = tt
+told-quiet e s Stuck h = tt
 
 -- ---- lists item by item
 
@@ -159,18 +211,18 @@ module _ (setting : MachineSetting) (is : IsSetting setting) (t : ToldWorld) (m 
   same-step : m.steps + 1 ≡ t.steps + 1
   same-step = ap (λ n. n + 1) related.steps
 
-  judged-lifted : (k : ℕ) (judgement : Judgement) (told : ToldShared) (frames : List SourceFrame) (v : Rattle.ir_meaning.specs.State.Violation) (printed : List ℕ) (r : MachineOutcome) → FollowsJudged judgement told.story v (counted t).steps printed r
-      → EndsJudged judgement (kept (counted t) k told frames) v (λ n e. lifted (counted m) k [] r ≡ Last n printed e) (Unit {0})
-  judged-lifted k (Passes coincidence) told frames v printed r h = tt
-  judged-lifted k (Refused refused) told frames v printed r h = let (shared, gone, raw, same, reports) = h in (kept (counted m) k shared gone, raw, ap (lifted (counted m) k []) same, reports, same-step)
+  judged-lifted : (k : ℕ) (judgement : Judgement) (told : ToldShared) (frames : List SourceFrame) (v : Rattle.ir_meaning.specs.State.Violation) (printed : List ℕ) (r : MachineOutcome) → printed ≡ [] → FollowsJudged judgement told.story v (counted t).steps printed r
+      → EndsJudged judgement (kept (counted t) k told frames) v (λ n e. lifted (counted m) k [] r ≡ Last n printed e) (printed ≡ [])
+  judged-lifted k (Passes coincidence) told frames v printed r nothing h = nothing
+  judged-lifted k (Refused refused) told frames v printed r nothing h = let (shared, gone, raw, same, reports) = h in (kept (counted m) k shared gone, raw, ap (lifted (counted m) k []) same, reports, same-step)
 
-  ending-lifted : (k : ℕ) (told : ToldShared) (frames : List SourceFrame) (printed : List ℕ) (ending : ToldEnding) (r : MachineOutcome) → FollowsEnding setting told (counted t).steps printed ending r
-      → EndsAs setting (kept (counted t) k told frames) ending (λ n e. lifted (counted m) k [] r ≡ Last n printed e) (Unit {0})
-  ending-lifted k told frames printed (AsSource (Exited n)) r h = let (shared, gone, same) = h in (kept (counted m) k shared gone, ap (lifted (counted m) k []) same, same-step)
-  ending-lifted k told frames printed (AsSource (Trapped trap task chain)) r h = let (shared, gone, number, same, known) = h in (kept (counted m) k shared gone, number, ap (lifted (counted m) k []) same, known, same-step)
-  ending-lifted k told frames printed (AsSource (Violated v)) r h = judged-lifted k (judged (story_setting setting) told.story told.source.births v) told frames v printed r h
-  ending-lifted k told frames printed (AsSource (Outside reason task chain)) r h = tt
-  ending-lifted k told frames printed (IsFull full) r h = let (shared, gone, same) = h in (kept (counted m) k shared gone, ap (lifted (counted m) k []) same, same-step)
+  ending-lifted : (k : ℕ) (told : ToldShared) (frames : List SourceFrame) (printed : List ℕ) (ending : ToldEnding) (r : MachineOutcome) → PrintsNothingAt ending printed → FollowsEnding setting told (counted t).steps printed ending r
+      → EndsAs setting (kept (counted t) k told frames) ending (λ n e. lifted (counted m) k [] r ≡ Last n printed e) (printed ≡ [])
+  ending-lifted k told frames printed (AsSource (Exited n)) r nothing h = let (shared, gone, same) = h in (kept (counted m) k shared gone, ap (lifted (counted m) k []) same, same-step)
+  ending-lifted k told frames printed (AsSource (Trapped trap task chain)) r nothing h = let (shared, gone, number, same, known) = h in (kept (counted m) k shared gone, number, ap (lifted (counted m) k []) same, known, same-step)
+  ending-lifted k told frames printed (AsSource (Violated v)) r nothing h = judged-lifted k (judged (story_setting setting) told.story told.source.births v) told frames v printed r nothing h
+  ending-lifted k told frames printed (AsSource (Outside reason task chain)) r nothing h = nothing
+  ending-lifted k told frames printed (IsFull full) r nothing h = let (shared, gone, same) = h in (kept (counted m) k shared gone, ap (lifted (counted m) k []) same, same-step)
 
   counted-related : WorldRelated setting (counted t) (counted m)
   counted-related =
@@ -185,17 +237,17 @@ module _ (setting : MachineSetting) (is : IsSetting setting) (t : ToldWorld) (m 
         turns = ap (λ n. n + turn_words (unfinished m)) related.turns ∙ ap (λ finished. t.turns + turn_words (unfinished_of finished)) same-finished;
       }
 
-  lifted-follows : (k : ℕ) (f : SourceFrame) (fs : List SourceFrame) (g : Frame) (gs : List Frame) → (o : ToldOutcome) (r : MachineOutcome) → Follows setting (seen (counted t) k f fs) m.shared o r
+  lifted-follows : (k : ℕ) (f : SourceFrame) (fs : List SourceFrame) (g : Frame) (gs : List Frame) → (o : ToldOutcome) (r : MachineOutcome) → IsQuietTold o → Follows setting (seen (counted t) k f fs) m.shared o r
       → FollowsWorldStep setting (lifted (counted t) k nothing_happened o) (lifted (counted m) k [] r)
-  lifted-follows k f fs g gs (Goes next report) r h =
+  lifted-follows k f fs g gs (Goes next report) r quiet h =
       let (n, same, seen_then, others) = h in (
         kept (counted m) k n.shared (n.frame ∷ n.callers),
         ap (lifted (counted m) k []) same,
         kept-related k next.shared n.shared (next.frame ∷ next.callers) (n.frame ∷ n.callers) seen_then.like.shared (older k next.shared n.shared others) (record { like = seen_then.like.frame; place = seen_then.place }, seen_then.like.callers) seen_then.like.owned
             (subst (λ count. HasTables count n.shared) many-finished seen_then.like.tables) (subst (λ count. AreStarted count next.shared.story) many-finished seen_then.like.started),
       )
-  lifted-follows k f fs g gs Stays r h = (counted m, ap (lifted (counted m) k []) h, counted-related)
-  lifted-follows k f fs g gs (Starts next report frame) r h =
+  lifted-follows k f fs g gs Stays r quiet h = (counted m, ap (lifted (counted m) k []) h, counted-related)
+  lifted-follows k f fs g gs (Starts next report frame) r quiet h =
       let (n, new, same, seen_then, own, births, others) = h in
       let many : length (finished_of t.tasks ++ false ∷ []) ≡ length t.tasks + 1 = length-append _ _ ∙ ap (λ count. count + 1) many-finished in (
         with_started (kept (counted m) k n.shared (n.frame ∷ n.callers)) new,
@@ -204,15 +256,15 @@ module _ (setting : MachineSetting) (is : IsSetting setting) (t : ToldWorld) (m 
             frame new (own, tt) (subst (λ count. OwnsFrames count (frame ∷ []) next.shared.story) many-finished births) (let few = seen_then.like.few in omega (arith, many, few))
             (subst (λ count. HasTables count n.shared) many seen_then.like.tables) (subst (λ count. AreStarted count next.shared.story) many seen_then.like.started),
       )
-  lifted-follows k f fs g gs (Finishes shared report) r h =
+  lifted-follows k f fs g gs (Finishes shared report) r quiet h =
       let (n, same, shared_then, tables, started, owned, others) = h in (
         kept (counted m) k n [],
         ap (lifted (counted m) k []) same,
         kept-related k shared n [] [] shared_then (older k shared n others) tt owned
             (subst (λ count. HasTables count n) many-finished tables) (subst (λ count. AreStarted count shared.story) many-finished started),
       )
-  lifted-follows k f fs g gs (Ends shared frames report ending) r h = ending-lifted k shared frames report.printed ending r h
-  lifted-follows k f fs g gs Stuck r h = tt
+  lifted-follows k f fs g gs (Ends shared frames report ending) r quiet h = ending-lifted k shared frames report.printed ending r quiet h
+  lifted-follows k f fs g gs Stuck r quiet h = tt
 
   -- a step of the run
   module _ (turns : ℕ → ℕ) where
@@ -234,6 +286,7 @@ module _ (setting : MachineSetting) (is : IsSetting setting) (t : ToldWorld) (m 
         by_frames [] frames = absurd frames
         by_frames (g ∷ gs) frames =
             lifted-follows k f fs g gs (told (seen (counted t) k f fs)) (step_in setting (seen (counted m) k g gs))
+            (told-quiet (story_setting setting) (seen (counted t) k f fs) (step_under setting.program setting.input (source_seen (seen (counted t) k f fs))) (source_step-quiet setting.program (next_input setting.input t.shared.source.input) (source_seen (seen (counted t) k f fs))))
             (subst (λ given. Follows setting (seen (counted t) k f fs) m.shared (told (seen (counted t) k f fs)) (machine_step setting (next_input setting.input given) (seen (counted m) k g gs))) (sym related.shared.input)
             (every-step-followed setting (seen (counted t) k f fs) (seen (counted m) k g gs) is (seen-related k f fs g gs there frames) setting.input))
 
@@ -270,6 +323,7 @@ before-after report reports r before goes =
       earlier = report ∷ rest.earlier;
       last = rest.last;
       all = ap (λ xs. report ∷ xs) rest.all;
+      nothing = rest.nothing;
       more = rest.more;
       printed = printed-after report.printed r going ∙ ap (λ xs. report.printed ∷ xs) rest.printed;
     }
@@ -290,8 +344,8 @@ module _ (setting : MachineSetting) (is : IsSetting setting) (turns : ℕ → �
       let (m, same, related) = h in
       subst (λ step. FollowsRun setting (after_report report (go t)) (after_step on step)) (sym same) (after-report-follows setting report (go t) (on m) (follows t m related))
   after-step-follows go on follows (Last t report ending) r h =
-      ends-map setting t ending (λ m e. r ≡ Last m report.printed e) (λ m e. after_step on r ≡ Ended m (printed_in (report ∷ [])) e) (Unit {0}) (after_step on r ≢ IsStuck → PrintsBefore (report ∷ []) (after_step on r))
-      (λ m e same. ap (after_step on) same) (λ _ goes. record { earlier = []; last = report; all = refl; more = machine_printed (after_step on r); printed = refl }) h
+      ends-map setting t ending (λ m e. r ≡ Last m report.printed e) (λ m e. after_step on r ≡ Ended m (printed_in (report ∷ [])) e) (report.printed ≡ []) (after_step on r ≢ IsStuck → PrintsBefore (report ∷ []) (after_step on r))
+      (λ m e same. ap (after_step on) same) (λ none goes. record { earlier = []; last = report; all = refl; nothing = none; more = machine_printed (after_step on r); printed = refl }) h
   after-step-follows go on follows NoStep r h = tt
 
   pub run-follows : (bound : ℕ) (t : ToldWorld) (m : MachineWorld) → WorldRelated setting t m → FollowsRun setting (run_from (told_step (story_setting setting) setting.input) nothing_happened turns bound t) (run_from (step_in setting) [] turns bound m)

@@ -94,14 +94,14 @@ pub record Detects (setting : MachineSetting) (turns : ℕ → ℕ) (bound : ℕ
       → told_run_of setting turns bound ≡ Ended t reports (AsSource (Violated v)) → judgement_at setting t v ≡ Refused refused
       → (m : MachineWorld) × (raw : Raw) × (machine_run setting turns bound ≡ Ended m (printed_in reports) (Reported raw))
       × IsReportOf t.shared.story m.shared v t.steps refused raw × SameStep t m
-  -- and if the tag rule passes it, by this coincidence, the machine first prints what the source printed before it
+  -- and if the tag rule passes it, by this coincidence, the machine first prints all that the source printed
   pub missed : (t : ToldWorld) (reports : List SourceReport) (v : Violation) (coincidence : Coincidence)
       → told_run_of setting turns bound ≡ Ended t reports (AsSource (Violated v)) → judgement_at setting t v ≡ Passes coincidence
       → PrintsBefore reports (machine_run setting turns bound)
   -- where the story is first full, the machine is full in the same step, with the same numbers
   pub full : (t : ToldWorld) (reports : List SourceReport) (full : Full) → told_run_of setting turns bound ≡ Ended t reports (IsFull full)
       → (m : MachineWorld) × (machine_run setting turns bound ≡ Ended m (printed_in reports) (MachineFull full)) × SameStep t m
-  -- where the source leaves the profile, the machine first prints what the source printed before that step
+  -- where the source leaves the profile, the machine first prints all that the source printed
   pub outside : (t : ToldWorld) (reports : List SourceReport) (reason : Reason) (task : ℕ) (chain : List Site)
       → told_run_of setting turns bound ≡ Ended t reports (AsSource (Outside reason task chain))
       → PrintsBefore reports (machine_run setting turns bound)

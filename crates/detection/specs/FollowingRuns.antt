@@ -30,11 +30,12 @@ machine_printed (Spent m printed) = printed
 machine_printed (Ended m printed ending) = printed
 machine_printed IsStuck = []
 
--- the machine first prints what the source printed before its last step, and goes on in some way
+-- the machine first prints what the source printed before its last step, in which it printed nothing, and goes on in some way
 pub record PrintsBefore (reports : List SourceReport) (r : MachineRun) : Type 0 where
   pub earlier : List SourceReport
   pub last : SourceReport
   pub all : reports ≡ earlier ++ last ∷ []
+  pub nothing : last.printed ≡ []
   pub more : List (List ℕ)
   pub printed : machine_printed r ≡ printed_in earlier ++ more
 
@@ -58,10 +59,10 @@ EndsAs setting t (AsSource (Violated v)) Is Beyond =
 EndsAs setting t (AsSource (Outside reason task chain)) Is Beyond = Beyond
 EndsAs setting t (IsFull full) Is Beyond = (m : MachineWorld) × Is m (MachineFull full) × SameStep t m
 
--- one step of the run
+-- one step of the run: if the machine need not follow it, the source prints nothing in it
 abbrev pub FollowsWorldStep : MachineSetting → ToldWorldStep → MachineWorldStep → Type 0
 FollowsWorldStep setting (Next t report) r = (m : MachineWorld) × (r ≡ Next m report.printed) × WorldRelated setting t m
-FollowsWorldStep setting (Last t report ending) r = EndsAs setting t ending (λ m e. r ≡ Last m report.printed e) (Unit {0})
+FollowsWorldStep setting (Last t report ending) r = EndsAs setting t ending (λ m e. r ≡ Last m report.printed e) (report.printed ≡ [])
 FollowsWorldStep setting NoStep r = Unit {0}
 
 -- a run; that of a module that can be run is never stuck
