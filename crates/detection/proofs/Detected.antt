@@ -1,11 +1,14 @@
 -- The detection theorem, and what follows for runs of the source alone.
 use Rattle.std.proofs.Common.{◌≡◌, ◌≢◌, ℕ, List, [], ◌∷◌, ◌++◌, refl, sym, ◌∙◌, ap, subst}
-use Rattle.std.proofs.lemmas.List.{append-nil}
+use Rattle.std.proofs.lemmas.List.{append-nil, append_assoc, map-append}
+use Rattle.std.specs.List.{flat_map}
 use Rattle.hw_tags.specs.TaskRuns.{Spent, Ended, IsStuck}
 use Rattle.ir_machine.proofs.WorldPlaces.{machine_run-not_stuck}
 use Rattle.ir_machine.specs.Runs.{machine_run}
+use Rattle.ir_machine.specs.Shown.{output_of}
 use Rattle.ir_machine.specs.State.{MachineSetting, MachineWorld, MachineRun, Reported}
 use Rattle.ir_machine.specs.declared.found.Raw.{Raw}
+use Rattle.ir_meaning.specs.Runs.{printed_by}
 use Rattle.ir_meaning.specs.State.{SourceReport, SourceRun, Violation, Exited, Trapped, Violated, Outside}
 use Rattle.tag_story.specs.ToldRun.{ToldWorld, ToldRunOutcome, AsSource, IsFull}
 use Rattle.tag_story.specs.declared.judgement.Judgement.{Judgement}
@@ -13,63 +16,68 @@ use Rattle.tag_story.specs.declared.judgement.Judgement.TheVariants.{Passes, Ref
 use Rattle.detection.proofs.StartFollows.{whole-run-follows}
 use Rattle.detection.proofs.StartRelated.{start-related}
 use Rattle.detection.proofs.StoryRuns.{told-run-source}
-use Rattle.detection.specs.Detection.{told_run_of, source_run_in, judgement_at, IsRunOfSource, Detects, MeetsFault, HasRoomAlways, before_last, printed_until, PrintsFirst, with_words}
+use Rattle.detection.specs.Detection.{told_run_of, source_run_in, judgement_at, IsRunOfSource, Detects, MeetsFault, HasRoomAlways, machine_output, PrintsFirst, with_words}
 use Rattle.detection.specs.FollowingRuns.{printed_in, machine_printed, PrintsBefore, EndsJudged, FollowsRun}
 use Rattle.simulation.specs.Relation.{IsSetting, story_setting}
 
 -- ---- any run that is followed
 
--- what came before the last step
-before_last-pushed : (earlier : List SourceReport) (last : SourceReport) → before_last (earlier ++ last ∷ []) ≡ earlier
-before_last-pushed [] last = refl
-before_last-pushed (report ∷ []) last = refl
-before_last-pushed (report ∷ next ∷ earlier) last = ap (λ xs. report ∷ xs) (before_last-pushed (next ∷ earlier) last)
+output_of-append : (xs ys : List (List ℕ)) → output_of (xs ++ ys) ≡ output_of xs ++ output_of ys
+output_of-append [] ys = refl
+output_of-append (x ∷ xs) ys = ap (λ zs. x ++ zs) (output_of-append xs ys) ∙ sym (append_assoc x (output_of xs) (output_of ys))
 
-before_last-first : (reports : List SourceReport) → (more : List (List ℕ)) × (printed_in reports ≡ printed_in (before_last reports) ++ more)
-before_last-first [] = ([], refl)
-before_last-first (report ∷ []) = (report.printed ∷ [], refl)
-before_last-first (report ∷ next ∷ reports) =
-    let (more, same) = before_last-first (next ∷ reports) in (more, ap (λ xs. report.printed ∷ xs) same)
+-- what a run of the source printed, by what each step printed
+source-output : (reports : List SourceReport) → output_of (printed_in reports) ≡ flat_map (λ (report : SourceReport). report.printed) reports
+source-output [] = refl
+source-output (report ∷ reports) = ap (λ xs. report.printed ++ xs) (source-output reports)
 
-prints-all : (printed : List (List ℕ)) (r : MachineRun) → machine_printed r ≡ printed → PrintsFirst printed r
-prints-all printed r h = ([], h ∙ sym (append-nil printed))
+-- the machine printed what the source did
+all-output : (reports : List SourceReport) (r : MachineRun) → machine_printed r ≡ printed_in reports → machine_output r ≡ flat_map (λ (report : SourceReport). report.printed) reports
+all-output reports r h = ap output_of h ∙ source-output reports
 
-prints-before : (reports : List SourceReport) (r : MachineRun) → PrintsBefore reports r → PrintsFirst (printed_in (before_last reports)) r
+prints-all : (output : List ℕ) (r : MachineRun) → machine_output r ≡ output → PrintsFirst output r
+prints-all output r h = ([], h ∙ sym (append-nil output))
+
+-- or it first printed what the source did, whose last step printed nothing
+prints-before : (reports : List SourceReport) (r : MachineRun) → PrintsBefore reports r → PrintsFirst (flat_map (λ (report : SourceReport). report.printed) reports) r
 prints-before reports r h =
-    let same : before_last reports ≡ h.earlier = ap before_last h.all ∙ before_last-pushed h.earlier h.last in
-    (h.more, h.printed ∙ ap (λ xs. printed_in xs ++ h.more) (sym same))
-
-prints-first : (reports : List SourceReport) (r : MachineRun) → machine_printed r ≡ printed_in reports → PrintsFirst (printed_in (before_last reports)) r
-prints-first reports r h = let (more, same) = before_last-first reports in (more, h ∙ same)
+    let last : output_of (h.last.printed ∷ []) ≡ [] = append-nil h.last.printed ∙ h.nothing in
+    let all : output_of (printed_in reports) ≡ output_of (printed_in h.earlier) =
+    ap (λ xs. output_of (printed_in xs)) h.all
+    ∙ ap output_of (map-append (λ (report : SourceReport). report.printed) h.earlier (h.last ∷ []))
+    ∙ output_of-append (printed_in h.earlier) (h.last.printed ∷ [])
+    ∙ ap (λ xs. output_of (printed_in h.earlier) ++ xs) last
+    ∙ append-nil (output_of (printed_in h.earlier)) in
+    (output_of h.more, ap output_of h.printed ∙ output_of-append (printed_in h.earlier) h.more ∙ ap (λ xs. xs ++ output_of h.more) (sym all ∙ source-output reports))
 
 module _ (setting : MachineSetting) (r : MachineRun) (going : r ≢ IsStuck) where
-  judged-until : (judgement : Judgement) (t : ToldWorld) (reports : List SourceReport) (v : Violation) → EndsJudged judgement t v (λ m e. r ≡ Ended m (printed_in reports) e) (r ≢ IsStuck → PrintsBefore reports r) → PrintsFirst (printed_in (before_last reports)) r
+  judged-until : (judgement : Judgement) (t : ToldWorld) (reports : List SourceReport) (v : Violation) → EndsJudged judgement t v (λ m e. r ≡ Ended m (printed_in reports) e) (r ≢ IsStuck → PrintsBefore reports r) → PrintsFirst (flat_map (λ (report : SourceReport). report.printed) reports) r
   judged-until (Passes coincidence) t reports v h = prints-before reports r (h going)
-  judged-until (Refused refused) t reports v h = let (m, raw, same, is, steps) = h in prints-first reports r (ap machine_printed same)
+  judged-until (Refused refused) t reports v h = let (m, raw, same, is, steps) = h in prints-all _ r (all-output reports r (ap machine_printed same))
 
   -- what the machine prints first
-  run-until : (o : ToldRunOutcome) (run : SourceRun) → FollowsRun setting o r → IsRunOfSource o run → HasRoomAlways o → PrintsFirst (printed_until run) r
+  run-until : (o : ToldRunOutcome) (run : SourceRun) → FollowsRun setting o r → IsRunOfSource o run → HasRoomAlways o → PrintsFirst (printed_by run) r
   run-until (Spent t reports) run h same room =
       let (m, own, related) = h in
-      subst (λ x. PrintsFirst (printed_until x) r) (sym same) (prints-all (printed_in reports) r (ap machine_printed own))
+      subst (λ x. PrintsFirst (printed_by x) r) (sym same) (prints-all _ r (all-output reports r (ap machine_printed own)))
   run-until (Ended t reports (AsSource (Exited n))) run h same room =
       let (m, own, steps) = h in
-      subst (λ x. PrintsFirst (printed_until x) r) (sym same) (prints-all (printed_in reports) r (ap machine_printed own))
+      subst (λ x. PrintsFirst (printed_by x) r) (sym same) (prints-all _ r (all-output reports r (ap machine_printed own)))
   run-until (Ended t reports (AsSource (Trapped trap task chain))) run h same room =
       let (m, number, own, known, steps) = h in
-      subst (λ x. PrintsFirst (printed_until x) r) (sym same) (prints-all (printed_in reports) r (ap machine_printed own))
+      subst (λ x. PrintsFirst (printed_by x) r) (sym same) (prints-all _ r (all-output reports r (ap machine_printed own)))
   run-until (Ended t reports (AsSource (Violated v))) run h same room =
-      subst (λ x. PrintsFirst (printed_until x) r) (sym same) (judged-until (judgement_at setting t v) t reports v h)
+      subst (λ x. PrintsFirst (printed_by x) r) (sym same) (judged-until (judgement_at setting t v) t reports v h)
   run-until (Ended t reports (AsSource (Outside reason task chain))) run h same room =
-      subst (λ x. PrintsFirst (printed_until x) r) (sym same) (prints-before reports r (h going))
+      subst (λ x. PrintsFirst (printed_by x) r) (sym same) (prints-before reports r (h going))
   run-until (Ended t reports (IsFull full)) run h same room = absurd room
-  run-until IsStuck run h same room = subst (λ x. PrintsFirst (printed_until x) r) (sym same) (machine_printed r, refl)
+  run-until IsStuck run h same room = subst (λ x. PrintsFirst (printed_by x) r) (sym same) (machine_output r, refl)
 
   -- and all that it prints, if the source meets no fault
-  run-clean : (o : ToldRunOutcome) (run : SourceRun) → FollowsRun setting o r → IsRunOfSource o run → HasRoomAlways o → (MeetsFault run → ⊥) → machine_printed r ≡ printed_until run
-  run-clean (Spent t reports) run h same room clean = let (m, own, related) = h in ap machine_printed own ∙ sym (ap printed_until same)
-  run-clean (Ended t reports (AsSource (Exited n))) run h same room clean = let (m, own, steps) = h in ap machine_printed own ∙ sym (ap printed_until same)
-  run-clean (Ended t reports (AsSource (Trapped trap task chain))) run h same room clean = let (m, number, own, known, steps) = h in ap machine_printed own ∙ sym (ap printed_until same)
+  run-clean : (o : ToldRunOutcome) (run : SourceRun) → FollowsRun setting o r → IsRunOfSource o run → HasRoomAlways o → (MeetsFault run → ⊥) → machine_output r ≡ printed_by run
+  run-clean (Spent t reports) run h same room clean = let (m, own, related) = h in all-output reports r (ap machine_printed own) ∙ sym (ap printed_by same)
+  run-clean (Ended t reports (AsSource (Exited n))) run h same room clean = let (m, own, steps) = h in all-output reports r (ap machine_printed own) ∙ sym (ap printed_by same)
+  run-clean (Ended t reports (AsSource (Trapped trap task chain))) run h same room clean = let (m, number, own, known, steps) = h in all-output reports r (ap machine_printed own) ∙ sym (ap printed_by same)
   run-clean (Ended t reports (AsSource (Violated v))) run h same room clean = absurd (clean (subst MeetsFault (sym same) tt))
   run-clean (Ended t reports (AsSource (Outside reason task chain))) run h same room clean = absurd (clean (subst MeetsFault (sym same) tt))
   run-clean (Ended t reports (IsFull full)) run h same room clean = absurd room
@@ -116,10 +124,10 @@ module _ (setting : MachineSetting) (turns : ℕ → ℕ) (bound : ℕ) (is : Is
         outside = λ t reports reason task chain h. let goes = subst IsFollowing h follows in goes not-stuck;
       }
 
-  pub prints-until : HasRoomAlways (told_run_of setting turns bound) → PrintsFirst (printed_until (source_run_in setting turns bound)) (machine_run setting turns bound)
+  pub prints-until : HasRoomAlways (told_run_of setting turns bound) → PrintsFirst (printed_by (source_run_in setting turns bound)) (machine_run setting turns bound)
   prints-until room = run-until setting (machine_run setting turns bound) not-stuck (told_run_of setting turns bound) (source_run_in setting turns bound) follows as-source room
 
-  pub prints-clean : HasRoomAlways (told_run_of setting turns bound) → (MeetsFault (source_run_in setting turns bound) → ⊥) → machine_printed (machine_run setting turns bound) ≡ printed_until (source_run_in setting turns bound)
+  pub prints-clean : HasRoomAlways (told_run_of setting turns bound) → (MeetsFault (source_run_in setting turns bound) → ⊥) → machine_output (machine_run setting turns bound) ≡ printed_by (source_run_in setting turns bound)
   prints-clean room clean = run-clean setting (machine_run setting turns bound) not-stuck (told_run_of setting turns bound) (source_run_in setting turns bound) follows as-source room clean
 
   pub fault-met : (m : MachineWorld) (printed : List (List ℕ)) (raw : Raw) → machine_run setting turns bound ≡ Ended m printed (Reported raw) → MeetsFault (source_run_in setting turns bound)

@@ -10,6 +10,7 @@ use Rattle.hw_base.specs.declared.pointers.Site.{Site}
 use Rattle.hw_tags.specs.TaskRuns.{Spent, Ended, IsStuck}
 use Rattle.ir_core.specs.declared.ir_module.Module.{Module}
 use Rattle.ir_machine.specs.Runs.{machine_run}
+use Rattle.ir_machine.specs.Shown.{output_of}
 use Rattle.ir_machine.specs.State.{MachineSetting, MachineWorld, MachineRun, Exited as MachineExited, Trapped as MachineTrapped, Reported, IsFull as MachineFull}
 use Rattle.ir_machine.specs.declared.found.Raw.{Raw}
 use Rattle.ir_meaning.specs.Runs.{source_run}
@@ -124,25 +125,13 @@ HasRoomAlways (Ended t reports (AsSource ending)) = Unit {0}
 HasRoomAlways (Ended t reports (IsFull full)) = ⊥
 HasRoomAlways IsStuck = Unit {0}
 
--- all steps but the last one
-abbrev pub before_last : List SourceReport → List SourceReport
-before_last [] = []
-before_last (report ∷ []) = []
-before_last (report ∷ next ∷ reports) = report ∷ before_last (next ∷ reports)
-
--- what each step of a run printed before the one in which it met a violation or left the profile: all that it printed, if there
--- was none
-abbrev pub printed_until : SourceRun → List (List ℕ)
-printed_until (Spent w reports) = printed_in reports
-printed_until (Ended w reports (Exited n)) = printed_in reports
-printed_until (Ended w reports (Trapped trap task chain)) = printed_in reports
-printed_until (Ended w reports (Violated v)) = printed_in (before_last reports)
-printed_until (Ended w reports (Outside reason task chain)) = printed_in (before_last reports)
-printed_until IsStuck = []
+-- what the machine's run printed
+abbrev pub machine_output : MachineRun → List ℕ
+machine_output r = output_of (machine_printed r)
 
 -- the machine prints this first
-abbrev pub PrintsFirst : List (List ℕ) → MachineRun → Type 0
-PrintsFirst printed r = (more : List (List ℕ)) × (machine_printed r ≡ printed ++ more)
+abbrev pub PrintsFirst : List ℕ → MachineRun → Type 0
+PrintsFirst output r = (more : List ℕ) × (machine_output r ≡ output ++ more)
 
 -- the same setting with other tag words
 abbrev pub with_words : MachineSetting → (ℕ → ℕ) → MachineSetting

@@ -9,9 +9,9 @@ ghost use Rattle.ir_machine.specs.Runs.{machine_run, run_of, setting_of, step_in
 ghost use Rattle.ir_machine.specs.Start.{machine_start, shared_at_start};
 ghost use Rattle.ir_machine.specs.State.{MachineSetting, MachineWorld, Reported};
 ghost use Rattle.ir_machine.specs.declared.found.Raw.{Raw};
-ghost use Rattle.ir_meaning.specs.Runs.{source_run_of};
-ghost use Rattle.detection.specs.Detection.{Detects, HasRoomAlways, MeetsFault, PrintsFirst, printed_until, program_setting, source_run_in, told_run_of, with_words};
-ghost use Rattle.detection.specs.FollowingRuns.{FollowsRun, FollowsWorldStep, machine_printed, told_at_start};
+ghost use Rattle.ir_meaning.specs.Runs.{printed_by, source_run_of};
+ghost use Rattle.detection.specs.Detection.{Detects, HasRoomAlways, MeetsFault, PrintsFirst, machine_output, program_setting, source_run_in, told_run_of, with_words};
+ghost use Rattle.detection.specs.FollowingRuns.{FollowsRun, FollowsWorldStep, told_at_start};
 ghost use Rattle.simulation.specs.Relation.{IsSetting, SharedRelated, WorldRelated, story_setting};
 ghost use Rattle.tag_story.specs.ToldRun.{ToldWorld, told_run, told_run_from, told_start, told_world_step};
 
@@ -78,13 +78,13 @@ pub fn no_report_without_a_violation()
 {}
 
 /// Two runs that differ in their tag words alone print the same until the first violation or until the source leaves the profile,
-/// while the heap and the stacks have room: both print first what the source program printed before that step. The function does
+/// while the heap and the stacks have room: both print first all that the source program prints until then. The function does
 /// nothing when it runs.
 pub fn tag_words_change_nothing_before_a_violation()
     ensures { (setting : MachineSetting) (other : ℕ → ℕ) (turns : ℕ → ℕ) (bound : ℕ) → IsSetting setting
         → HasRoomAlways (told_run_of setting turns bound) → HasRoomAlways (told_run_of (with_words setting other) turns bound)
-        → PrintsFirst (printed_until (source_run_in setting turns bound)) (machine_run setting turns bound)
-        × PrintsFirst (printed_until (source_run_in setting turns bound)) (machine_run (with_words setting other) turns bound) }
+        → PrintsFirst (printed_by (source_run_in setting turns bound)) (machine_run setting turns bound)
+        × PrintsFirst (printed_by (source_run_in setting turns bound)) (machine_run (with_words setting other) turns bound) }
 {}
 
 /// A program that meets no violation and stays in the profile prints under all tag words what the source program prints, while
@@ -92,9 +92,9 @@ pub fn tag_words_change_nothing_before_a_violation()
 pub fn faultless_programs_print_the_same()
     ensures as_source { (setting : MachineSetting) (turns : ℕ → ℕ) (bound : ℕ) → IsSetting setting
         → HasRoomAlways (told_run_of setting turns bound) → ¬ MeetsFault (source_run_in setting turns bound)
-        → machine_printed (machine_run setting turns bound) ≡ printed_until (source_run_in setting turns bound) }
+        → machine_output (machine_run setting turns bound) ≡ printed_by (source_run_in setting turns bound) }
     ensures all_words { (setting : MachineSetting) (other : ℕ → ℕ) (turns : ℕ → ℕ) (bound : ℕ) → IsSetting setting
         → HasRoomAlways (told_run_of setting turns bound) → HasRoomAlways (told_run_of (with_words setting other) turns bound)
         → ¬ MeetsFault (source_run_in setting turns bound)
-        → machine_printed (machine_run (with_words setting other) turns bound) ≡ machine_printed (machine_run setting turns bound) }
+        → machine_output (machine_run (with_words setting other) turns bound) ≡ machine_output (machine_run setting turns bound) }
 {}
