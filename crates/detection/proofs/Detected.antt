@@ -51,7 +51,7 @@ prints-before reports r h =
     (output_of h.more, ap output_of h.printed ∙ output_of-append (printed_in h.earlier) h.more ∙ ap (λ xs. xs ++ output_of h.more) (sym all ∙ source-output reports))
 
 module _ (setting : MachineSetting) (r : MachineRun) (going : r ≢ IsStuck) where
-  judged-until : (judgement : Judgement) (t : ToldWorld) (reports : List SourceReport) (v : Violation) → EndsJudged judgement t v (λ m e. r ≡ Ended m (printed_in reports) e) (r ≢ IsStuck → PrintsBefore reports r) → PrintsFirst (flat_map (λ (report : SourceReport). report.printed) reports) r
+  judged-until : (judgement : Judgement) (t : ToldWorld) (reports : List SourceReport) (v : Violation) → EndsJudged setting judgement t v (λ m e. r ≡ Ended m (printed_in reports) e) (r ≢ IsStuck → PrintsBefore reports r) → PrintsFirst (flat_map (λ (report : SourceReport). report.printed) reports) r
   judged-until (Passes coincidence) t reports v h = prints-before reports r (h going)
   judged-until (Refused refused) t reports v h = let (m, raw, same, is, steps) = h in prints-all _ r (all-output reports r (ap machine_printed same))
 
@@ -109,7 +109,7 @@ module _ (setting : MachineSetting) (turns : ℕ → ℕ) (bound : ℕ) (is : Is
   IsFollowing o = FollowsRun setting o (machine_run setting turns bound)
 
   abbrev IsJudgedAs : ToldWorld → List SourceReport → Violation → Judgement → Type 0
-  IsJudgedAs t reports v judgement = EndsJudged judgement t v (λ m e. machine_run setting turns bound ≡ Ended m (printed_in reports) e) (machine_run setting turns bound ≢ IsStuck → PrintsBefore reports (machine_run setting turns bound))
+  IsJudgedAs t reports v judgement = EndsJudged setting judgement t v (λ m e. machine_run setting turns bound ≡ Ended m (printed_in reports) e) (machine_run setting turns bound ≢ IsStuck → PrintsBefore reports (machine_run setting turns bound))
 
   pub detected : Detects setting turns bound
   detected =

@@ -211,8 +211,8 @@ module _ (setting : MachineSetting) (is : IsSetting setting) (t : ToldWorld) (m 
   same-step : m.steps + 1 ≡ t.steps + 1
   same-step = ap (λ n. n + 1) related.steps
 
-  judged-lifted : (k : ℕ) (judgement : Judgement) (told : ToldShared) (frames : List SourceFrame) (v : Rattle.ir_meaning.specs.State.Violation) (printed : List ℕ) (r : MachineOutcome) → printed ≡ [] → FollowsJudged judgement told.story v (counted t).steps printed r
-      → EndsJudged judgement (kept (counted t) k told frames) v (λ n e. lifted (counted m) k [] r ≡ Last n printed e) (printed ≡ [])
+  judged-lifted : (k : ℕ) (judgement : Judgement) (told : ToldShared) (frames : List SourceFrame) (v : Rattle.ir_meaning.specs.State.Violation) (printed : List ℕ) (r : MachineOutcome) → printed ≡ [] → FollowsJudged setting judgement told v (counted t).steps printed r
+      → EndsJudged setting judgement (kept (counted t) k told frames) v (λ n e. lifted (counted m) k [] r ≡ Last n printed e) (printed ≡ [])
   judged-lifted k (Passes coincidence) told frames v printed r nothing h = nothing
   judged-lifted k (Refused refused) told frames v printed r nothing h = let (shared, gone, raw, same, reports) = h in (kept (counted m) k shared gone, raw, ap (lifted (counted m) k []) same, reports, same-step)
 
@@ -303,7 +303,7 @@ ends-map setting t (AsSource (Exited n)) P Q A B go on h = let (m, is, same) = h
 ends-map setting t (AsSource (Trapped trap task chain)) P Q A B go on h = let (m, number, is, known, same) = h in (m, number, go m _ is, known, same)
 ends-map setting t (AsSource (Violated v)) P Q A B go on h = by_judgement (judged (story_setting setting) t.shared.story t.shared.source.births v) h
   where
-    by_judgement : (judgement : Judgement) → EndsJudged judgement t v P A → EndsJudged judgement t v Q B
+    by_judgement : (judgement : Judgement) → EndsJudged setting judgement t v P A → EndsJudged setting judgement t v Q B
     by_judgement (Passes coincidence) is = on is
     by_judgement (Refused refused) is = let (m, raw, own, reports, same) = is in (m, raw, go m _ own, reports, same)
 ends-map setting t (AsSource (Outside reason task chain)) P Q A B go on h = on h

@@ -94,7 +94,7 @@ pub record Detects (setting : MachineSetting) (turns : ℕ → ℕ) (bound : ℕ
   pub reported : (t : ToldWorld) (reports : List SourceReport) (v : Violation) (refused : Refusing)
       → told_run_of setting turns bound ≡ Ended t reports (AsSource (Violated v)) → judgement_at setting t v ≡ Refused refused
       → (m : MachineWorld) × (raw : Raw) × (machine_run setting turns bound ≡ Ended m (printed_in reports) (Reported raw))
-      × IsReportOf t.shared.story m.shared v t.steps refused raw × SameStep t m
+      × IsReportOf setting t.shared m.shared v t.steps refused raw × SameStep t m
   -- and if the tag rule passes it, by this coincidence, the machine first prints all that the source printed
   pub missed : (t : ToldWorld) (reports : List SourceReport) (v : Violation) (coincidence : Coincidence)
       → told_run_of setting turns bound ≡ Ended t reports (AsSource (Violated v)) → judgement_at setting t v ≡ Passes coincidence

@@ -44,10 +44,10 @@ abbrev pub SameStep : ToldWorld → MachineWorld → Type 0
 SameStep t m = m.steps ≡ t.steps
 
 -- the machine's last world and end at a violation, if `Is` holds of them; or else `Beyond`, if the tag rule passes it
-abbrev pub EndsJudged : Judgement → ToldWorld → Violation → (MachineWorld → MachineEnding → Type 0) → Type 0 → Type 0
-EndsJudged (Passes coincidence) t v Is Beyond = Beyond
-EndsJudged (Refused refused) t v Is Beyond =
-    (m : MachineWorld) × (raw : Raw) × Is m (Reported raw) × IsReportOf t.shared.story m.shared v t.steps refused raw × SameStep t m
+abbrev pub EndsJudged : MachineSetting → Judgement → ToldWorld → Violation → (MachineWorld → MachineEnding → Type 0) → Type 0 → Type 0
+EndsJudged setting (Passes coincidence) t v Is Beyond = Beyond
+EndsJudged setting (Refused refused) t v Is Beyond =
+    (m : MachineWorld) × (raw : Raw) × Is m (Reported raw) × IsReportOf setting t.shared m.shared v t.steps refused raw × SameStep t m
 
 -- the machine's last world and end, by the source's, if `Is` holds of them; or else `Beyond`, if the source left the profile
 abbrev pub EndsAs : MachineSetting → ToldWorld → ToldEnding → (MachineWorld → MachineEnding → Type 0) → Type 0 → Type 0
@@ -55,7 +55,7 @@ EndsAs setting t (AsSource (Exited n)) Is Beyond = (m : MachineWorld) × Is m (M
 EndsAs setting t (AsSource (Trapped trap task chain)) Is Beyond =
     (m : MachineWorld) × (number : ℕ) × Is m (MachineTrapped trap task number) × IsChain m.shared.chains number chain × SameStep t m
 EndsAs setting t (AsSource (Violated v)) Is Beyond =
-    EndsJudged (judged (story_setting setting) t.shared.story t.shared.source.births v) t v Is Beyond
+    EndsJudged setting (judged (story_setting setting) t.shared.story t.shared.source.births v) t v Is Beyond
 EndsAs setting t (AsSource (Outside reason task chain)) Is Beyond = Beyond
 EndsAs setting t (IsFull full) Is Beyond = (m : MachineWorld) × Is m (MachineFull full) × SameStep t m
 

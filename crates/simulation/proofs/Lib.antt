@@ -4,6 +4,7 @@ pub mod BirthRelated
 pub mod BlockBorn
 pub mod BlockFreed
 pub mod BlockSpans
+pub mod ChainsRelated
 pub mod ChecksAgree
 pub mod DeathRelated
 pub mod FineFrees

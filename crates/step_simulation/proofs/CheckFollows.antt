@@ -10,7 +10,7 @@ use Rattle.hw_base.specs.declared.pointers.Base.TheVariants.{Null, Object}
 use Rattle.hw_base.specs.declared.pointers.Site.{Site}
 use Rattle.hw_shadow.specs.TagRule.{granules_touched, mismatch_in, first_mismatch}
 use Rattle.hw_shadow.specs.declared.mismatch.Mismatch.{Mismatch}
-use Rattle.dbg_sites.proofs.ChainLemmas.{pushed-front, pushed-within}
+use Rattle.dbg_sites.proofs.ChainLemmas.{pushed-front, pushed-within, pushed-table}
 use Rattle.ir_core.specs.ResolvedBodies.{is_alignment}
 use Rattle.ir_machine.specs.CheckSteps.{one_check, on_check, one_step, sized_step}
 use Rattle.ir_machine.specs.InstructionStep.{operation_step}
@@ -32,7 +32,9 @@ use Rattle.tag_story.specs.declared.judgement.Judgement.TheVariants.{Passes, Ref
 use Rattle.tag_story.specs.declared.judgement.Refusing.{Refusing}
 use Rattle.tbi_memory.specs.AddressSpace.{AddressSpace, check, last_byte}
 use Rattle.tbi_memory.specs.MappedBytes.{byte_at}
+use Rattle.simulation.proofs.ChainsRelated.{chains-related}
 use Rattle.simulation.proofs.Sizes.{both}
+use Rattle.simulation.proofs.TablesKept.{pushed-stay}
 use Rattle.step_simulation.proofs.PlainSteps.{own_site}
 use Rattle.simulation.specs.Checks.{FindsJudged, refusing_found}
 use Rattle.step_simulation.specs.Following.{FollowsJudged, IsReportOf}
@@ -129,7 +131,7 @@ module _ (setting : MachineSetting) (given : Input) (site : Site) (next : Machin
 
 module _ (setting : MachineSetting) (t : ToldSeen) (m : MachineSeen) (like : SeenLike setting t m) where
   pub reported : (v : Violation) (n number : ℕ) (mismatch : Mismatch) (refused : Refusing) → number ≡ pointer_number t.shared.story v.pointer → v.task ≡ t.task → v.size ≡ n → v.chain ≡ own_site t ∷ t.frame.chain → refusing_by mismatch ≡ refused
-      → IsReportOf t.shared.story (chain_known m (own_site t)).shared v t.step refused (record { access = v.access; size = n; number = number; task = m.task; step = m.step; chain = chain_at m (own_site t); found = Memory mismatch })
+      → IsReportOf setting t.shared (chain_known m (own_site t)).shared v t.step refused (record { access = v.access; size = n; number = number; task = m.task; step = m.step; chain = chain_at m (own_site t); found = Memory mismatch })
   reported v n number mismatch refused is task size chain found =
       record {
         access = refl;
@@ -142,10 +144,11 @@ module _ (setting : MachineSetting) (t : ToldSeen) (m : MachineSeen) (like : See
           sites = pushed-front m.shared.chains m.frame.chain (own_site t) like.shared.table like.frame.chain.there ∙ ap (λ c. own_site t ∷ c) like.frame.chain.sites ∙ sym chain;
         };
         found = found;
+        related = chains-related setting t.shared m.shared (chain_known m (own_site t)).shared.chains (pushed-stay m.shared.chains m.frame.chain (own_site t) like.shared.table) (pushed-table m.shared.chains m.frame.chain (own_site t) like.shared.table like.frame.chain.there) like.shared;
       }
 
   pub by-judgement : (v : Violation) (n number : ℕ) (next : MachineSeen → MachineOutcome) (found : Option Mismatch) (judgement : Judgement) → number ≡ pointer_number t.shared.story v.pointer → v.task ≡ t.task → v.size ≡ n → v.chain ≡ own_site t ∷ t.frame.chain → FindsJudged judgement (option_map Memory found)
-      → FollowsJudged judgement t.shared.story v t.step [] (on_check m (own_site t) v.access n number next found)
+      → FollowsJudged setting judgement t.shared v t.step [] (on_check m (own_site t) v.access n number next found)
   by-judgement v n number next found (Passes coincidence) is task size chain h = tt
   by-judgement v n number next None (Refused refused) is task size chain h = let none = h.1.0 in absurd cc
   by-judgement v n number next (Some mismatch) (Refused refused) is task size chain h =

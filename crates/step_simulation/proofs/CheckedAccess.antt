@@ -125,7 +125,7 @@ module _ (setting : MachineSetting) (t : ToldSeen) (m : MachineSeen) (is : IsSet
   found-follows access base off n align number go next other pointer follows trapped Fine here =
       subst (λ found. FollowsIn setting t m next (on_check m (own_site t) access n number go found)) (sym (inside-unchecked access base off n align number other pointer (ap lies_inside here))) (follows here)
   found-follows access base off n align number go next other pointer follows trapped (Violates kind) here =
-      subst (λ judgement. FollowsJudged judgement t.shared.story (violation_of (source_seen t) kind access base off n) t.step [] (on_check m (own_site t) access n number go (check m.shared.memory number n)))
+      subst (λ judgement. FollowsJudged setting judgement t.shared (violation_of (source_seen t) kind access base off n) t.step [] (on_check m (own_site t) access n number go (check m.shared.memory number n)))
       (sym (judged-access access (story_setting setting) t.shared.story t.shared.source.births (number_of t.shared.story.births base off) n other))
       (by-judgement setting t m like (violation_of (source_seen t) kind access base off n) n number go (check m.shared.memory number n) (access_judged (story_setting setting) t.shared.story t.shared.source.births (number_of t.shared.story.births base off) n) pointer refl refl refl
       (subst (λ p. FindsJudged (access_judged (story_setting setting) t.shared.story t.shared.source.births p n) (option_map Memory (check m.shared.memory number n))) pointer (checks-judged setting t.shared m.shared like.shared number n)))

@@ -36,7 +36,8 @@ use Rattle.tag_story.specs.declared.judgement.Judgement.{Judgement}
 use Rattle.tag_story.specs.declared.judgement.Judgement.TheVariants.{Passes, Refused}
 use Rattle.tbi_memory.specs.AddressSpace.{check}
 use Rattle.step_simulation.proofs.ArithmeticFollows.{IsOperandOf}
-use Rattle.step_simulation.proofs.BlockFollows.{site-chain}
+use Rattle.simulation.proofs.ChainsRelated.{chains-related}
+use Rattle.step_simulation.proofs.BlockFollows.{site-chain, site-stay, site-table}
 use Rattle.step_simulation.proofs.CheckedAccess.{found-follows}
 use Rattle.step_simulation.proofs.FreeFollows.{fine-frees}
 use Rattle.simulation.proofs.FreesAgree.{frees-judged}
@@ -71,7 +72,7 @@ module _ (setting : MachineSetting) (t : ToldSeen) (m : MachineSeen) (f : Functi
   -- ---- frees
 
   free-reported : (v : Violation) (number : ℕ) (next : MachineOutcome) (found : Option FreeMismatch) (judgement : Judgement) → number ≡ pointer_number t.shared.story v.pointer → v.task ≡ t.task → v.size ≡ 0 → v.access ≡ Free → v.chain ≡ own_site t ∷ t.frame.chain → FindsJudged judgement (option_map OfBlock found)
-      → FollowsJudged judgement t.shared.story v t.step [] (on_free m (own_site t) number next found)
+      → FollowsJudged setting judgement t.shared v t.step [] (on_free m (own_site t) number next found)
   free-reported v number next found (Passes coincidence) same task size access chain h = tt
   free-reported v number next None (Refused refused) same task size access chain h = let none = h.1.0 in absurd cc
   free-reported v number next (Some mismatch) (Refused refused) same task size access chain h =
@@ -88,6 +89,7 @@ module _ (setting : MachineSetting) (t : ToldSeen) (m : MachineSeen) (f : Functi
           step_is = like.step;
           chain = record { there = (site-chain setting t m like).there; sites = (site-chain setting t m like).sites ∙ sym chain };
           found = ap refusing_found one ∙ h.1.1;
+          related = chains-related setting t.shared m.shared (chain_known m (own_site t)).shared.chains (site-stay setting t m like) (site-table setting t m like) like.shared;
         },
       )
 

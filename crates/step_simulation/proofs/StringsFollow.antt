@@ -204,10 +204,10 @@ module _ (setting : MachineSetting) (t : ToldSeen) (m : MachineSeen) (is : IsSet
 module _ (setting : MachineSetting) (t : ToldSeen) (m : MachineSeen) (f : Function) (is : IsSetting setting) (like : SeenLike setting t m) where
   -- what the check of a string ends in
   judged-string : (base : Base) (off : ℕ) (kind : Rattle.hw_base.specs.declared.accesses.Kind.Kind) (next : MachineSeen → MachineOutcome) (judgement : Judgement) (r : Result (List ℕ) StringFault) → FindsByte setting t m is like (number_of t.shared.story.births base off) judgement r
-      → FollowsJudged judgement t.shared.story (violation_of (source_seen t) kind Read base off 1) t.step [] (on_checked m (own_site t) next r)
+      → FollowsJudged setting judgement t.shared (violation_of (source_seen t) kind Read base off 1) t.step [] (on_checked m (own_site t) next r)
   judged-string base off kind next (Passes coincidence) r h = tt
   judged-string base off kind next (JudgedRefused refused) r h =
-      subst (λ (s : Result (List ℕ) StringFault). FollowsJudged (JudgedRefused refused) t.shared.story (violation_of (source_seen t) kind Read base off 1) t.step [] (on_checked m (own_site t) next s)) (sym h.1) (
+      subst (λ (s : Result (List ℕ) StringFault). FollowsJudged setting (JudgedRefused refused) t.shared (violation_of (source_seen t) kind Read base off 1) t.step [] (on_checked m (own_site t) next s)) (sym h.1) (
         (chain_known m (own_site t)).shared,
         m.frame ∷ m.callers,
         _,

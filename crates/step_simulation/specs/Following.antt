@@ -23,21 +23,22 @@ use Rattle.simulation.specs.Images.{Stays as StaysPlaced}
 use Rattle.simulation.specs.Parts.{IsChain, frames_of_task, AreStarted}
 use Rattle.simulation.specs.Relation.{story_setting, SharedRelated, HasTables, OwnsFrames, SeenRelated, FrameRelated}
 
--- a report is on exactly this violation, refused by this
-pub record IsReportOf (w : Story) (shared : MachineShared) (v : Violation) (step : ℕ) (refused : Refusing) (raw : Raw) : Type 0 where
+-- a report is on exactly this violation, refused by this, and comes in a state that is related to the source's
+pub record IsReportOf (setting : MachineSetting) (t : ToldShared) (shared : MachineShared) (v : Violation) (step : ℕ) (refused : Refusing) (raw : Raw) : Type 0 where
   pub access : raw.access ≡ v.access
   pub size : raw.size ≡ v.size
-  pub number : raw.number ≡ pointer_number w v.pointer
+  pub number : raw.number ≡ pointer_number t.story v.pointer
   pub task : raw.task ≡ v.task
   pub step_is : raw.step ≡ step
   pub chain : IsChain shared.chains raw.chain v.chain
   pub found : refusing_found raw.found ≡ refused
+  pub related : SharedRelated setting t shared
 
 -- a violation that the tag rule refuses is reported; of one that it passes nothing more is said
-abbrev pub FollowsJudged : Judgement → Story → Violation → (step : ℕ) → List ℕ → MachineOutcome → Type 0
-FollowsJudged (Passes coincidence) w v step printed r = Unit {0}
-FollowsJudged (Refused refused) w v step printed r =
-    (shared : MachineShared) × (frames : List Frame) × (raw : Raw) × (r ≡ Ends shared frames printed (Reported raw)) × IsReportOf w shared v step refused raw
+abbrev pub FollowsJudged : MachineSetting → Judgement → ToldShared → Violation → (step : ℕ) → List ℕ → MachineOutcome → Type 0
+FollowsJudged setting (Passes coincidence) t v step printed r = Unit {0}
+FollowsJudged setting (Refused refused) t v step printed r =
+    (shared : MachineShared) × (frames : List Frame) × (raw : Raw) × (r ≡ Ends shared frames printed (Reported raw)) × IsReportOf setting t shared v step refused raw
 
 -- the machine's end of a step, by the source's
 abbrev pub FollowsEnding : MachineSetting → ToldShared → (step : ℕ) → List ℕ → ToldEnding → MachineOutcome → Type 0
@@ -46,7 +47,7 @@ FollowsEnding setting t step printed (AsSource (Exited n)) r =
 FollowsEnding setting t step printed (AsSource (Trapped trap task chain)) r =
     (shared : MachineShared) × (frames : List Frame) × (number : ℕ) × (r ≡ Ends shared frames printed (MachineTrapped trap task number)) × IsChain shared.chains number chain
 FollowsEnding setting t step printed (AsSource (Violated v)) r =
-    FollowsJudged (judged (story_setting setting) t.story t.source.births v) t.story v step printed r
+    FollowsJudged setting (judged (story_setting setting) t.story t.source.births v) t v step printed r
 FollowsEnding setting t step printed (AsSource (Outside reason task chain)) r = Unit {0}
 FollowsEnding setting t step printed (IsFull full) r =
     (shared : MachineShared) × (frames : List Frame) × (r ≡ Ends shared frames printed (MachineFull full))
