@@ -13,6 +13,7 @@ use Rattle.ir_meaning.specs.State.{SourceReport, SourceRun, Violation, Exited, T
 use Rattle.tag_story.specs.ToldRun.{ToldWorld, ToldRunOutcome, AsSource, IsFull}
 use Rattle.tag_story.specs.declared.judgement.Judgement.{Judgement}
 use Rattle.tag_story.specs.declared.judgement.Judgement.TheVariants.{Passes, Refused}
+use Rattle.detection.proofs.SameRuns.{tags-alone, still-room}
 use Rattle.detection.proofs.StartFollows.{whole-run-follows}
 use Rattle.detection.proofs.StartRelated.{start-related}
 use Rattle.detection.proofs.StoryRuns.{told-run-source}
@@ -153,3 +154,8 @@ with_words-is setting word is =
       frames = is.frames;
       tasks = is.tasks;
     }
+
+-- under other tag words there is room as well
+pub room-still : (setting : MachineSetting) (word : ℕ → ℕ) (turns : ℕ → ℕ) (bound : ℕ) → HasRoomAlways (told_run_of setting turns bound) → HasRoomAlways (told_run_of (with_words setting word) turns bound)
+room-still setting word turns bound room =
+    still-room (told_run_of setting turns bound) (told_run_of (with_words setting word) turns bound) (tags-alone (story_setting setting) word setting.input turns bound) room

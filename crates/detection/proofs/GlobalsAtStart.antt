@@ -13,7 +13,6 @@ use Rattle.hw_base.specs.AddressMap.{rounded_size}
 use Rattle.hw_base.specs.Bytes.{le_bytes}
 use Rattle.hw_base.specs.declared.pointers.Base.TheVariants.{Object}
 use Rattle.hw_base.specs.declared.pointers.Obj.{Obj}
-use Rattle.hw_tags.specs.InputState.{no_input_taken}
 use Rattle.ir_core.proofs.Capping.{layout_at-capped}
 use Rattle.ir_core.specs.Layout.{layout_at, layout_size, capped, exact_layouts, alloc_size_of}
 use Rattle.ir_core.specs.Resolved.{IsPieceOf, IsPartWithin}
@@ -24,16 +23,11 @@ use Rattle.ir_core.specs.declared.types.TypeLayout.{TypeLayout}
 use Rattle.ir_core.specs.declared.types.TypeLayout.TheVariants.{Known, NoSize, Loop}
 use Rattle.ir_machine.proofs.BlockPlaces.{all-at}
 use Rattle.ir_machine.proofs.CodeAt.{get-below}
-use Rattle.ir_machine.specs.Start as machine
-use Rattle.ir_machine.specs.Start.{shared_at_start}
-use Rattle.ir_machine.specs.State.{MachineSetting, MachineShared}
-use Rattle.ir_machine.specs.TaskFunctions.{with_task}
+use Rattle.ir_machine.specs.State.{MachineSetting}
 use Rattle.ir_meaning.specs.BirthChanges.{HasItsBytes}
-use Rattle.ir_meaning.specs.Births.{Globals, Heap, Birth, SourceObject, is_living, object_in, get_object}
-use Rattle.ir_meaning.specs.Start.{part_bytes, with_parts, global_object, global_births}
+use Rattle.ir_meaning.specs.Births.{Globals, Birth, SourceObject, is_living, object_in, get_object}
+use Rattle.ir_meaning.specs.Start.{part_bytes, with_parts, global_object}
 use Rattle.ir_meaning.specs.Values.{SourceByte, Data}
-use Rattle.stack_tags.specs.Frames as stacks
-use Rattle.tag_alloc.specs.HeapBlocks as blocks
 use Rattle.tag_story.proofs.GlobalPlacesTold.{placed_globals, placed_global, placed-is, globals-new}
 use Rattle.tag_story.proofs.Owners.{covers-in}
 use Rattle.tag_story.proofs.StoryLaws.{born-laid}
@@ -42,7 +36,6 @@ use Rattle.tag_story.specs.Story.{StorySetting, Placed, StoryBirth, Story, get_p
 use Rattle.tag_story.specs.StoryFacts.{IsLaidOut, IsObject}
 use Rattle.tag_story.specs.StoryTags.{covers, owned_tag, tag_by, memory_tag, owner_from, freed_tag}
 use Rattle.tag_story.specs.Telling.{global_placed, globals_told}
-use Rattle.tag_story.specs.ToldRun.{ToldShared}
 use Rattle.tbi_memory.specs.AddressSpace.{AddressSpace, is_in, space_at_start}
 use Rattle.tbi_memory.specs.MappedBytes.{byte_at}
 use Rattle.simulation.proofs.BirthLists.{told_birth, new-byte}
@@ -52,13 +45,11 @@ use Rattle.simulation.proofs.Sizes.{size-rounded}
 use Rattle.simulation.proofs.FinePasses.{owned}
 use Rattle.simulation.proofs.FreshMemory.{AreFresh, all-tags, all-tags_other}
 use Rattle.simulation.proofs.MappedRegions.{constant-mapped, variable-mapped}
-use Rattle.detection.proofs.LoadedGlobals.{ArePieces, HavePieces, length-with_parts, parts-known, globals-some, globals-ends, globals-constants, globals-shadow, globals-image, globals-last}
-use Rattle.detection.proofs.StartMemory.{ranges, start-mapped, start-zero, start-ends, start-tags}
-use Rattle.step_simulation.proofs.TaskStarted.{task-related}
+use Rattle.detection.proofs.LoadedGlobals.{ArePieces, HavePieces, length-with_parts, parts-known, globals-some, globals-constants, globals-shadow, globals-image, globals-last}
+use Rattle.detection.proofs.StartMemory.{ranges, start-mapped, start-zero, start-tags}
 use Rattle.step_simulation.proofs.WritesFollow.{data-known, data-image, pointer-length, pointer-image, pointer-known}
-use Rattle.detection.specs.FollowingRuns.{told_at_start, story_at}
 use Rattle.simulation.specs.Parts.{IsTold, LiesAsConstant}
-use Rattle.simulation.specs.Relation.{IsSetting, HasGlobals, SharedRelated, story_setting}
+use Rattle.simulation.specs.Relation.{IsSetting, HasGlobals, story_setting}
 use Rattle.simulation.specs.Writes.{AreKnown}
 
 -- ---- the sizes of globals

@@ -4,6 +4,8 @@ pub mod LoadedGlobals
 pub mod ProgramSettings
 pub mod QuietEndings
 pub mod QuietFaults
+pub mod SameRuns
+pub mod SameStories
 pub mod SmallProgramRuns
 pub mod StartFollows
 pub mod StartMemory

@@ -6,11 +6,9 @@ use Rattle.ir_core.specs.declared.ir_module.Function.{Function}
 use Rattle.ir_core.specs.LibraryAccesses.{accesses_of}
 use Rattle.ir_meaning.specs.Values.{Value}
 use Rattle.ir_meaning.specs.State.{SourceFrame, SourceSeen, SourceOutcome}
-use Rattle.ir_meaning.specs.Operands.{with_named, with_integer, with_pointer, with_pair}
-use Rattle.ir_meaning.specs.StepEnds.{on_answer, on_read, on_integer}
 use Rattle.ir_meaning.specs.Strings.{StringAnswer, Whole, Refused, MeetsPiece, NotEnded}
-use Rattle.ir_meaning.specs.CallSteps.{on_arguments, call_step, last_return, returns_to, ret_step}
-use Rattle.ir_meaning.specs.LibraryCalls.{on_accesses, nothing_step, lifetime_step, function_step}
+use Rattle.ir_meaning.specs.CallSteps.{call_step, last_return, returns_to, ret_step}
+use Rattle.ir_meaning.specs.LibraryCalls.{nothing_step, lifetime_step, function_step}
 use Rattle.hw_base.specs.declared.endings.Input.{Input}
 use Rattle.hw_base.specs.declared.endings.Input.TheVariants.{Byte, End}
 use Rattle.hw_base.specs.declared.endings.Trap.{Trap}

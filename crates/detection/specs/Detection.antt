@@ -107,6 +107,19 @@ pub record Detects (setting : MachineSetting) (turns : ℕ → ℕ) (bound : ℕ
       → told_run_of setting turns bound ≡ Ended t reports (AsSource (Outside reason task chain))
       → PrintsBefore reports (machine_run setting turns bound)
 
+-- ---- tag words
+
+-- the same setting with other tag words
+abbrev pub with_words : MachineSetting → (ℕ → ℕ) → MachineSetting
+with_words setting word = record setting { word = word }
+
+-- the same run but for tags: each step reports the same, and the last state of the source and the end are the same. So the story
+-- is full in the same step, with the same numbers
+abbrev pub SameButTags : ToldRunOutcome → ToldRunOutcome → Type 0
+SameButTags (Spent t reports) r = (u : ToldWorld) × (r ≡ Spent u reports) × (source_world u ≡ source_world t)
+SameButTags (Ended t reports ending) r = (u : ToldWorld) × (r ≡ Ended u reports ending) × (source_world u ≡ source_world t)
+SameButTags IsStuck r = r ≡ IsStuck
+
 -- ---- what follows for runs of the source alone
 
 -- a run that meets a violation or leaves the profile; or it is stuck
@@ -132,7 +145,3 @@ machine_output r = output_of (machine_printed r)
 -- the machine prints this first
 abbrev pub PrintsFirst : List ℕ → MachineRun → Type 0
 PrintsFirst output r = (more : List ℕ) × (machine_output r ≡ output ++ more)
-
--- the same setting with other tag words
-abbrev pub with_words : MachineSetting → (ℕ → ℕ) → MachineSetting
-with_words setting word = record setting { word = word }

@@ -10,7 +10,7 @@ ghost use Rattle.ir_machine.specs.Start.{machine_start, shared_at_start};
 ghost use Rattle.ir_machine.specs.State.{MachineSetting, MachineWorld, Reported};
 ghost use Rattle.ir_machine.specs.declared.found.Raw.{Raw};
 ghost use Rattle.ir_meaning.specs.Runs.{printed_by, source_run_of};
-ghost use Rattle.detection.specs.Detection.{Detects, HasRoomAlways, MeetsFault, PrintsFirst, machine_output, program_setting, source_run_in, told_run_of, with_words};
+ghost use Rattle.detection.specs.Detection.{Detects, HasRoomAlways, MeetsFault, PrintsFirst, SameButTags, machine_output, program_setting, source_run_in, told_run_of, with_words};
 ghost use Rattle.detection.specs.FollowingRuns.{FollowsRun, FollowsWorldStep, told_at_start};
 ghost use Rattle.simulation.specs.Relation.{IsSetting, SharedRelated, WorldRelated, story_setting};
 ghost use Rattle.tag_story.specs.ToldRun.{ToldWorld, told_run, told_run_from, told_start, told_world_step};
@@ -77,12 +77,19 @@ pub fn no_report_without_a_violation()
         → MeetsFault (source_run_of program options input) }
 {}
 
+/// Tag words decide over tags alone: under other words the source program with its story makes the same run, and the heap or a
+/// stack is full in the same step, with the same numbers. The function does nothing when it runs.
+pub fn tag_words_decide_over_tags_alone()
+    ensures { (setting : MachineSetting) (other : ℕ → ℕ) (turns : ℕ → ℕ) (bound : ℕ)
+        → SameButTags (told_run_of setting turns bound) (told_run_of (with_words setting other) turns bound) }
+{}
+
 /// Two runs that differ in their tag words alone print the same until the first violation or until the source leaves the profile,
 /// while the heap and the stacks have room: both print first all that the source program prints until then. The function does
 /// nothing when it runs.
 pub fn tag_words_change_nothing_before_a_violation()
     ensures { (setting : MachineSetting) (other : ℕ → ℕ) (turns : ℕ → ℕ) (bound : ℕ) → IsSetting setting
-        → HasRoomAlways (told_run_of setting turns bound) → HasRoomAlways (told_run_of (with_words setting other) turns bound)
+        → HasRoomAlways (told_run_of setting turns bound)
         → PrintsFirst (printed_by (source_run_in setting turns bound)) (machine_run setting turns bound)
         × PrintsFirst (printed_by (source_run_in setting turns bound)) (machine_run (with_words setting other) turns bound) }
 {}
@@ -94,7 +101,7 @@ pub fn faultless_programs_print_the_same()
         → HasRoomAlways (told_run_of setting turns bound) → ¬ MeetsFault (source_run_in setting turns bound)
         → machine_output (machine_run setting turns bound) ≡ printed_by (source_run_in setting turns bound) }
     ensures all_words { (setting : MachineSetting) (other : ℕ → ℕ) (turns : ℕ → ℕ) (bound : ℕ) → IsSetting setting
-        → HasRoomAlways (told_run_of setting turns bound) → HasRoomAlways (told_run_of (with_words setting other) turns bound)
+        → HasRoomAlways (told_run_of setting turns bound)
         → ¬ MeetsFault (source_run_in setting turns bound)
         → machine_output (machine_run (with_words setting other) turns bound) ≡ machine_output (machine_run setting turns bound) }
 {}

@@ -1,5 +1,5 @@
 -- The machine follows comparisons of pointers: wherever the source has an answer, the numbers of the pointers have the same.
-use Rattle.std.proofs.Common.{◌≡◌, List, ℕ, zero, suc, ◌+◌, ◌-◌, ◌*◌, ◌%◌, ◌^◌, ◌<◌, ◌≤◌, ◌==◌, ◌&&◌, Bool, true, false, not, nat_lt, nat_le, leb, eqb, max, if◌then◌else◌, slice_get, Option, Some, None, option_map, refl, sym, ◌∙◌, ap, subst, inl, inr, arith, pos, negsuc, int_lt, int_le}
+use Rattle.std.proofs.Common.{◌≡◌, ℕ, zero, suc, ◌+◌, ◌-◌, ◌*◌, ◌%◌, ◌^◌, ◌<◌, ◌≤◌, ◌==◌, ◌&&◌, Bool, true, false, not, nat_lt, nat_le, leb, eqb, max, if◌then◌else◌, Option, Some, None, option_map, refl, sym, ◌∙◌, ap, subst, inl, inr, arith, pos, negsuc, int_lt, int_le}
 use Rattle.std.proofs.lemmas.Bool.{le-leb, leb-true, eq-eqb, eqb-true}
 use Rattle.std.proofs.lemmas.Bool.{cases_lt}
 use Rattle.std.proofs.lemmas.Bool.Decides.{leb_tells, eqb_tells}
@@ -16,11 +16,11 @@ use Rattle.ir_machine.specs.State.{MachineSetting}
 use Rattle.ir_meaning.specs.Births.{SourceObject, is_living, get_object}
 use Rattle.ir_meaning.specs.Encoding.{same_object}
 use Rattle.ir_meaning.specs.PointerComparison.{null_equal, is_within, objects_equal, pointers_equal, unsigned_code, offsets_ordered, pointers_ordered, pointers_compared}
-use Rattle.tag_story.specs.Story.{StoryBirth, get_placed, Placed, placed_in}
+use Rattle.tag_story.specs.Story.{Placed}
 use Rattle.tag_story.specs.StoryFacts.{AreApart, IsLaidOut}
 use Rattle.tag_story.specs.ToldRun.{ToldShared}
 use Rattle.simulation.proofs.ObjectPlaces.{IsPlacedAs, placed-as, placed-there}
-use Rattle.simulation.proofs.Sizes.{size-rounded, short-rounded, both, if-some, same-placed}
+use Rattle.simulation.proofs.Sizes.{size-rounded, both, if-some, same-placed}
 use Rattle.step_simulation.proofs.PointerFollows.{start_in, start_of}
 use Rattle.simulation.specs.Parts.{AreTold}
 use Rattle.simulation.specs.Relation.{IsSetting, story_setting}

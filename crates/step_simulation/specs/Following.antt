@@ -7,15 +7,12 @@ use Rattle.hw_tags.specs.TaskRuns.{Goes, Stays, Starts, Finishes, Ends, Stuck}
 use Rattle.ir_meaning.specs.State.{Exited, Trapped, Violated, Outside, Violation}
 use Rattle.dbg_sites.specs.ChainTable.{ChainEntry}
 use Rattle.ir_tasks.specs.Frames.{Frame}
-use Rattle.ir_machine.specs.declared.found.Found.{Found}
-use Rattle.ir_machine.specs.declared.found.Found.TheVariants.{Memory, Block as OfBlock}
 use Rattle.ir_machine.specs.declared.found.Raw.{Raw}
 use Rattle.ir_machine.specs.State.{MachineSetting, MachineShared, MachineSeen, MachineOutcome, Exited as MachineExited, Trapped as MachineTrapped, Reported, IsFull as MachineFull}
 use Rattle.tag_story.specs.declared.judgement.Judgement.{Judgement}
 use Rattle.tag_story.specs.declared.judgement.Judgement.TheVariants.{Passes, Refused}
 use Rattle.tag_story.specs.declared.judgement.Refusing.{Refusing}
-use Rattle.tag_story.specs.declared.judgement.Refusing.TheVariants.{Block}
-use Rattle.tag_story.specs.Judging.{judged, refusing_by}
+use Rattle.tag_story.specs.Judging.{judged}
 use Rattle.tag_story.specs.Story.{Story, pointer_number}
 use Rattle.tag_story.specs.ToldRun.{ToldShared, ToldSeen, ToldEnding, AsSource, IsFull, ToldOutcome}
 use Rattle.simulation.specs.Checks.{refusing_found}
