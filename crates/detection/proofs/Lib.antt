@@ -6,6 +6,7 @@ pub mod QuietEndings
 pub mod QuietFaults
 pub mod SameRuns
 pub mod SameStories
+pub mod ShownReports
 pub mod SmallProgramRuns
 pub mod StartFollows
 pub mod StartMemory
