@@ -1,4 +1,4 @@
-ghost use Rattle.std.specs.Prelude.{◌≡◌, ℕ, List, [], map};
+ghost use Rattle.std.specs.Prelude.{◌≡◌, ℕ, List, []};
 ghost use Rattle.hw_tags.specs.Options.{IsHeapSize};
 ghost use Rattle.hw_tags.specs.TaskRuns.{Ended, run_from, world_step};
 ghost use Rattle.hw_tags.specs.Word.{word};

@@ -8,7 +8,6 @@ ghost use Rattle.ir_machine.specs.State.{MachineSeen, MachineSetting};
 ghost use Rattle.step_simulation.specs.RegisterSteps.{IsAt, IsFollowed, is_register_step};
 ghost use Rattle.simulation.specs.Relation.{IsSetting, SeenRelated};
 ghost use Rattle.tag_story.specs.ToldRun.{ToldSeen};
-ghost use Rattle.tbi_memory.specs.AddressSpace.{check};
 
 /// In related states the machine follows each source step that reads and writes registers alone: it gives the image of the same
 /// result, goes along the same edge, or traps at the same site, and the states stay related. Of a step that is stuck
