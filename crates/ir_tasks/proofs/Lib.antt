@@ -1,1 +1,2 @@
+pub mod CallStackLemmas
 pub mod FrameLemmas

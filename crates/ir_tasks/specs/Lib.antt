@@ -1,1 +1,2 @@
+pub mod CallStacks
 pub mod Frames
