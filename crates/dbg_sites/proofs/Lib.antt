@@ -1,5 +1,6 @@
 pub mod Bounds
 pub mod ChainLemmas
+pub mod ChainLinkLaws
 pub mod Endings
 pub mod Index
 pub mod ScopeChains

@@ -1,3 +1,4 @@
+pub mod ChainLinks
 pub mod ChainTable
 pub mod Cycles
 pub mod Read

@@ -5,6 +5,7 @@
 //! function, file, line and column yet.
 #![tactic(auto)]
 
+mod chains;
 mod definitions;
 mod examples;
 mod fields;
@@ -14,6 +15,7 @@ mod numbers;
 mod scopes;
 mod token_kinds;
 
+pub use chains::Chains;
 pub use examples::chains_by_example;
 pub use laws::{
     chains_end_within_the_nodes, equal_numbers_are_equal_chains, pushing_puts_a_site_in_front,

@@ -15,6 +15,7 @@ pub use bit_intrinsics::bits;
 pub use comparisons::compare;
 pub use conversions::cast;
 pub use overflow_intrinsics::overflow;
+pub use twos_complement::wrap;
 
 #[cfg(test)]
 mod tests;

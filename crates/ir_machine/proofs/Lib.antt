@@ -1,3 +1,5 @@
+mod MoveLemmas
+mod ArgumentLemmas
 pub mod BlockPlaces
 pub mod CodeAt
 pub mod RunLaws

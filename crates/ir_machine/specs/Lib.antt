@@ -10,6 +10,7 @@ pub mod LibraryCalls
 pub mod MemorySteps
 pub mod Operands
 pub mod ReachableWorlds
+pub mod RunStates
 pub mod Runs
 pub mod Shown
 pub mod Start

@@ -2,10 +2,16 @@
 //! machine instruction, and whole runs by turn words. It is a definition, with its laws and examples.
 #![tactic(auto)]
 
+mod arithmetic;
+mod branches;
+mod calls;
 mod examples;
 mod found;
 mod further_examples;
 mod laws;
+mod progress;
+mod run;
+mod text_functions;
 
 pub use examples::{
     a_heap_overflow_is_reported, a_use_after_free_is_reported, a_use_after_return_is_reported,

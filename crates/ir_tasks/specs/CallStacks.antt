@@ -1,6 +1,6 @@
 -- The frames of a task as they lie in memory: the registers of all frames are one list, the oldest frame's first, and each
 -- frame knows where its own begin. This project's choice.
-use Rattle.std.specs.Prelude.{ℕ, List, [], ◌∷◌, drop, take, reverse, replicate}
+use Rattle.std.specs.Prelude.{ℕ, ◌+◌, ◌^◌, ◌<◌, List, All, [], ◌∷◌, drop, take, reverse, replicate}
 use Rattle.ir_tasks.specs.Frames.{Frame}
 use Rattle.ir_tasks.specs.declared.activation.Activation.{Activation}
 
@@ -36,3 +36,7 @@ fresh_frame func registers place chain =
 -- a task after a call: the new frame runs
 abbrev pub called : Calls → Frame → Calls
 called calls frame = record { frame = frame; callers = calls.frame ∷ calls.callers }
+
+-- the callers' code goes on after the calls where they are
+abbrev pub AreAtCalls : List Activation → Type 0
+AreAtCalls older = All (λ activation. activation.place + 1 < 2 ^ 64) older

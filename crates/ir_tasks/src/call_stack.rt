@@ -1,4 +1,4 @@
-ghost use Rattle.std.specs.Prelude.{◌≡◌, ◌+◌, [], ◌∷◌, length, IfOk, OnOk, OnErr, true, false};
+ghost use Rattle.std.specs.Prelude.{◌≡◌, ◌+◌, ◌^◌, ◌<◌, [], ◌∷◌, length, IfOk, OnOk, OnErr, true, false};
 
 use crate::Activation;
 use hw_base::OutOfMemory;
@@ -15,11 +15,13 @@ pub struct CallStack {
 }
 
 impl Model for CallStack {
-    ghost use Rattle.ir_tasks.specs.CallStacks.{Calls, calls_of};
+    ghost use Rattle.ir_tasks.specs.CallStacks.{Calls, calls_of, AreAtCalls};
 
     ghost Value = { Calls };
 
     ghost view = { λ s. calls_of s.registers.items s.newest s.older.items };
+
+    ghost invariant = { λ s. AreAtCalls s.older.items };
 }
 
 impl CallStack {
@@ -53,23 +55,20 @@ impl CallStack {
     }
 
     /// The number in a register of the frame that runs.
-    pub fn register(&self, r: u32) -> u128
+    pub fn register(&self, r: usize) -> u128
         ensures { result ≡ register self.now.frame r }
     {
-        match self
-            .registers
-            .get(self.newest.base.saturating_add(r as usize))
-        {
+        match self.registers.get(self.newest.base.saturating_add(r)) {
             Some(number) => *number,
             None => 0,
         }
     }
 
     /// Sets a register of the frame that runs.
-    pub fn set_register(&mut self, r: u32, number: u128)
+    pub fn set_register(&mut self, r: usize, number: u128)
         ensures { self.new ≡ record self.old { frame = with_register self.old.frame r number } }
     {
-        let at = self.newest.base.saturating_add(r as usize);
+        let at = self.newest.base.saturating_add(r);
         if at < self.registers.len() {
             self.registers[at] = number;
         }
@@ -110,7 +109,8 @@ impl CallStack {
         self.older.len() as u64 + 1
     }
 
-    /// A function is called: its frame runs, with registers that are 0. After want of memory the task is as before.
+    /// A function is called: its frame runs, with registers that are 0. The caller stays at the call, after which the code goes
+    /// on. After want of memory the task is as before.
     pub fn call(
         &mut self,
         func: u32,
@@ -118,6 +118,7 @@ impl CallStack {
         place: usize,
         chain: u32,
     ) -> Result<(), OutOfMemory>
+        requires { self.old.frame.place + 1 < 2 ^ 64 }
         ensures ok { OnOk result (self.new ≡ called self.old (fresh_frame func registers place chain)) }
         ensures err { OnErr result (self.new ≡ self.old) }
     {
@@ -146,6 +147,7 @@ impl CallStack {
     pub fn end_call(&mut self) -> bool
         ensures last { result ≡ false → (self.old.callers ≡ []) × (self.new ≡ self.old) }
         ensures caller { result ≡ true → self.old.callers ≡ self.new.frame ∷ self.new.callers }
+        ensures place { result ≡ true → self.new.frame.place + 1 < 2 ^ 64 }
     {
         match self.older.pop() {
             Some(caller) => {

@@ -1,0 +1,83 @@
+-- What a run has in hand while a step is made: what the task's step sees, the bytes that it printed, and how the run ended if it
+-- has. The code's results are single words; what they mean is read from this state. This project's choice.
+use Rattle.std.specs.Prelude.{◌≡◌, ℕ, List, [], ◌∷◌, false}
+use Rattle.hw_base.specs.AddressMap.{program_map}
+use Rattle.hw_tags.specs.InputState.{no_input_taken}
+use Rattle.hw_tags.specs.TaskRuns.{Goes, Stays, Starts, Finishes, Ends, Stuck}
+use Rattle.stack_tags.specs.Frames as stacks
+use Rattle.tag_alloc.specs.HeapBlocks as blocks
+use Rattle.global_tags.specs.GlobalBytes.{loaded}
+use Rattle.dbg_sites.specs.ChainTable.{ChainEntry}
+use Rattle.mi_code.specs.declared.edges.Move.{Move}
+use Rattle.ir_tasks.specs.Frames.{Frame}
+use Rattle.ir_tasks.specs.CallStacks.{Calls}
+use Rattle.ir_machine.specs.declared.progress.Ending.{Ending}
+use Rattle.ir_machine.specs.declared.progress.Ending.TheVariants.{Exit, Trap}
+use Rattle.ir_machine.specs.declared.progress.Progress.{Progress}
+use Rattle.ir_machine.specs.declared.progress.Progress.TheVariants.{Ran, Printed, Returned, Ended, NoMemory}
+use Rattle.ir_machine.specs.State.{MachineShared, MachineSeen, MachineOutcome, MachineEnding, Exited, Trapped}
+
+pub record RunState : Type 0 where
+  pub seen : MachineSeen
+  pub printed : List ℕ
+  pub ending : MachineEnding
+
+-- how a run ended
+abbrev pub ending_of : Ending → MachineEnding
+ending_of (Exit value) = Exited value
+ending_of (Trap trap task chain) = Trapped trap task chain
+
+-- what all tasks share while no global, variable or block was made: memory as at the start, for a heap of so many bytes, and
+-- these chains
+abbrev pub untouched : (heap ring : ℕ) → List ChainEntry → MachineShared
+untouched heap ring chains =
+    record {
+      memory = loaded (program_map heap) [] [] 0;
+      globals = [];
+      heap = blocks.with_task (blocks.heap_at_start (program_map heap) ring);
+      stacks = stacks.with_task (stacks.stacks_at_start (program_map heap) ring);
+      chains = chains;
+      births = 0;
+      drawn = 0;
+      input = no_input_taken;
+    }
+
+-- what a step of the only task sees
+abbrev pub only_task : MachineShared → Calls → (step : ℕ) → MachineSeen
+only_task shared calls step =
+    record {
+      shared = shared;
+      task = 0;
+      frame = calls.frame;
+      callers = calls.callers;
+      finished = false ∷ [];
+      step = step;
+    }
+
+-- the outcome isn't that the task goes on
+abbrev pub EndsTask : MachineOutcome → Type 0
+EndsTask (Goes s report) = ⊥
+EndsTask other = Unit {0}
+
+-- The progress of a step and the state after it are an outcome. If memory ran out nothing is said.
+abbrev pub IsOutcome : MachineOutcome → Progress → RunState → Type 0
+IsOutcome outcome Ran v = outcome ≡ Goes v.seen []
+IsOutcome outcome Printed v = outcome ≡ Goes v.seen v.printed
+IsOutcome outcome Returned v = outcome ≡ Ends v.seen.shared [] [] v.ending
+IsOutcome outcome Ended v = outcome ≡ Ends v.seen.shared (v.seen.frame ∷ v.seen.callers) [] v.ending
+IsOutcome outcome NoMemory v = Unit {0}
+
+-- The same of a step that takes no memory if the task goes on.
+abbrev pub IsPlainOutcome : MachineOutcome → Progress → RunState → Type 0
+IsPlainOutcome outcome NoMemory v = EndsTask outcome
+IsPlainOutcome outcome progress v = IsOutcome outcome progress v
+
+-- the state with another frame that runs
+abbrev pub with_frame : RunState → Frame → RunState
+with_frame v frame = record v { seen = record v.seen { frame = frame } }
+
+-- moves beside the numbers that they were read to
+abbrev pub moves_with : List Move → List ℕ → List (ℕ × ℕ)
+moves_with [] numbers = []
+moves_with (move ∷ moves) [] = []
+moves_with (move ∷ moves) (n ∷ numbers) = (move.to, n) ∷ moves_with moves numbers

@@ -1,0 +1,213 @@
+ghost use Rattle.std.specs.Prelude.{◌≡◌, ℕ, ◌+◌, ◌-◌, ◌^◌, ◌<◌, ◌≤◌, length, [], ◌∷◌, OnOk, true, false, unwrap_or};
+
+use crate::progress::{Ending, Progress};
+use dbg_sites::Chains;
+use hw_base::{OutOfMemory, Site, Trap};
+use ir_arith::wrap;
+use ir_tasks::CallStack;
+use mi_code::MiOperand;
+use std::marker::Model;
+
+/// What a run has in hand: the frames of its task, the chains of sites, the number of the step, what the last step
+/// printed, and how the run ended if it has.
+#[derive(Drop)]
+pub struct Run {
+    calls: CallStack,
+    chains: Chains,
+    step: u64,
+    heap: u64,
+    ring: u32,
+    printed: Vec<u8>,
+    ending: Ending,
+}
+
+impl Model for Run {
+    ghost use Rattle.ir_machine.specs.RunStates.{RunState, only_task, untouched, ending_of};
+
+    ghost Value = { RunState };
+
+    ghost view = { λ r. record {
+      seen = only_task (untouched r.heap r.ring r.chains) r.calls r.step;
+      printed = r.printed.items;
+      ending = ending_of r.ending;
+    } };
+}
+
+impl Run {
+    ghost use Rattle.ir_machine.specs.State.{MachineSeen};
+    ghost use Rattle.ir_machine.specs.Operands.{number_in, integer_in, second_part};
+    ghost use Rattle.ir_tasks.specs.Frames.{at_place};
+    ghost use Rattle.ir_machine.specs.StepEnds.{gives, goes_on, traps, ends, prints, with_number, with_result, chain_known, chain_at};
+    ghost use Rattle.ir_machine.specs.CallSteps.{last_left};
+    ghost use Rattle.ir_tasks.specs.CallStacks.{fresh_frame};
+    ghost use Rattle.ir_machine.specs.RunStates.{IsOutcome, IsPlainOutcome, with_frame, ending_of};
+
+    /// The number that an operand is.
+    pub fn number(&self, operand: &MiOperand) -> u128
+        ensures { result ≡ number_in self.now.seen operand.now }
+    {
+        match *operand {
+            MiOperand::Reg(r) => self.calls.register(r as usize),
+            MiOperand::Num(n) => n,
+            MiOperand::Global { off, .. } => off as u128,
+        }
+    }
+
+    /// The number that an operand is, in a width of 1 to 128 bits.
+    pub fn integer(&self, width: u32, operand: &MiOperand) -> u128
+        requires from_1 { 1 ≤ width }
+        requires to_128 { width ≤ 128 }
+        ensures value { result ≡ integer_in self.now.seen width operand.now }
+        ensures below { result < 2 ^ width }
+    {
+        wrap(width, self.number(operand))
+    }
+
+    /// The second part of a pair.
+    pub fn second(&self, operand: &MiOperand) -> u128
+        ensures { result ≡ second_part self.now.seen.frame.registers operand.now }
+    {
+        match *operand {
+            MiOperand::Reg(r) => self.calls.register(r as usize + 1),
+            _ => 0,
+        }
+    }
+
+    /// A register of the frame that runs has a number.
+    pub fn set(&mut self, to: usize, n: u128)
+        ensures { self.new ≡ record self.old { seen = with_number self.old.seen to n } }
+    {
+        self.calls.set_register(to, n);
+    }
+
+    /// The task goes on at the next instruction.
+    pub fn go_on(&mut self) -> Progress
+        requires { self.old.seen.frame.place + 1 < 2 ^ 64 }
+        ensures { IsPlainOutcome (goes_on self.old.seen) result self.new }
+    {
+        self.calls.set_place(self.calls.place() + 1);
+        Progress::Ran
+    }
+
+    /// A register has a number, and the task goes on.
+    pub fn give(&mut self, to: u32, n: u128) -> Progress
+        requires { self.old.seen.frame.place + 1 < 2 ^ 64 }
+        ensures { IsPlainOutcome (gives self.old.seen to n) result self.new }
+    {
+        self.set(to as usize, n);
+        self.go_on()
+    }
+
+    /// The task goes on at a place.
+    pub fn go_to(&mut self, place: usize)
+        ensures { self.new ≡ with_frame self.old (at_place self.old.seen.frame place) }
+    {
+        self.calls.set_place(place);
+    }
+
+    /// A byte is printed, the result of a call has its number, and the task goes on.
+    pub fn print_byte(&mut self, to: Option<u32>, byte: u8) -> Progress
+        requires { self.old.seen.frame.place + 1 < 2 ^ 64 }
+        ensures { IsOutcome (prints self.old.seen to byte (byte ∷ [])) result self.new }
+    {
+        self.printed.clear();
+        match self.printed.push(byte) {
+            Ok(()) => {}
+            Err(_) => return Progress::NoMemory,
+        }
+        self.set_result(to, byte as u128);
+        self.calls.set_place(self.calls.place() + 1);
+        Progress::Printed
+    }
+
+    /// The result of a call has a number, if it has a register.
+    pub fn set_result(&mut self, to: Option<u32>, n: u128)
+        ensures { self.new ≡ record self.old { seen = with_result self.old.seen to n } }
+    {
+        match to {
+            Some(to) => self.set(to as usize, n),
+            None => {}
+        }
+    }
+
+    /// The run ends so.
+    pub fn end(&mut self, ending: Ending) -> Progress
+        ensures { IsPlainOutcome (ends self.old.seen (ending_of ending)) result self.new }
+    {
+        self.ending = ending;
+        Progress::Ended
+    }
+
+    /// How many frames the task has.
+    pub fn depth(&self) -> u64
+        ensures { result ≡ length self.now.seen.callers + 1 }
+    {
+        self.calls.depth()
+    }
+
+    /// The function of the frame that runs.
+    pub fn func(&self) -> u32
+        ensures { result ≡ self.now.seen.frame.func }
+    {
+        self.calls.func()
+    }
+
+    /// The place of the frame that runs.
+    pub fn place(&self) -> usize
+        ensures { result ≡ self.now.seen.frame.place }
+    {
+        self.calls.place()
+    }
+
+    /// A new frame of a function runs, at its first place, with the chain of a call at a site.
+    pub fn push_frame(&mut self, site: Site, func: u32, registers: u32) -> Result<(), OutOfMemory>
+        requires place { self.old.seen.frame.place + 1 < 2 ^ 64 }
+        requires chains { length self.old.seen.shared.chains < 2 ^ 32 - 1 }
+        ensures { OnOk result (self.new ≡ record self.old {
+            seen = record (chain_known self.old.seen site) {
+                frame = fresh_frame func registers 0 (chain_at self.old.seen site);
+                callers = self.old.seen.frame ∷ self.old.seen.callers;
+            } }) }
+    {
+        let chain = self.chains.push(self.calls.chain(), site)?;
+        self.calls.call(func, registers, 0, chain)
+    }
+
+    /// The frame that runs ends, and its caller runs. The result is false if there is none: then nothing changes.
+    pub fn pop_frame(&mut self) -> bool
+        ensures last { result ≡ false → (self.old.seen.callers ≡ []) × (self.new ≡ self.old) }
+        ensures caller { result ≡ true → (self.old.seen.callers ≡ self.new.seen.frame ∷ self.new.seen.callers)
+            × (self.new ≡ record self.old { seen = record self.old.seen { frame = self.new.seen.frame; callers = self.new.seen.callers } }) }
+        ensures place { result ≡ true → self.new.seen.frame.place + 1 < 2 ^ 64 }
+    {
+        self.calls.end_call()
+    }
+
+    /// The last frame of the first task has returned a number, or nothing, and the run ends.
+    pub fn finish(&mut self, n: Option<u128>) -> Progress
+        requires { self.old.seen.task ≡ 0 }
+        ensures { IsOutcome (last_left self.old.seen.task self.old.seen.shared (unwrap_or n 0)) result self.new }
+    {
+        let value = match n {
+            Some(n) => (n % 4_294_967_296) as u32,
+            None => 0,
+        };
+        self.ending = Ending::Exit(value);
+        Progress::Returned
+    }
+
+    /// The run ends with a trap at a site.
+    #[cold]
+    pub fn trap(&mut self, site: Site, trap: Trap) -> Progress
+        requires { length self.old.seen.shared.chains < 2 ^ 32 - 1 }
+        ensures { IsPlainOutcome (traps self.old.seen site trap) result self.new }
+    {
+        match self.chains.push(self.calls.chain(), site) {
+            Ok(chain) => {
+                self.ending = Ending::Trap { trap, task: 0, chain };
+                Progress::Ended
+            }
+            Err(_) => Progress::NoMemory,
+        }
+    }
+}
