@@ -1,3 +1,6 @@
+pub mod TurnSteps
+pub mod BuiltCode
+pub mod Outcomes
 mod MoveLemmas
 mod ArgumentLemmas
 pub mod BlockPlaces

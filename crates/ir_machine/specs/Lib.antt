@@ -2,6 +2,7 @@ pub mod AddressSteps
 pub mod ArithmeticSteps
 pub mod BlockFunctions
 pub mod BranchSteps
+pub mod Built
 pub mod ByteFunctions
 pub mod CallSteps
 pub mod CheckSteps

@@ -9,9 +9,11 @@ mod examples;
 mod found;
 mod further_examples;
 mod laws;
+mod operations;
 mod progress;
 mod run;
 mod text_functions;
+mod turn;
 
 pub use examples::{
     a_heap_overflow_is_reported, a_use_after_free_is_reported, a_use_after_return_is_reported,

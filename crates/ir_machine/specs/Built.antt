@@ -1,0 +1,69 @@
+-- The instructions that the machine runs today: those that take no memory of the program, with the widths that they can have; and
+-- what the code of a run is. This project's choice.
+use Rattle.std.specs.Prelude.{◌≡◌, ℕ, ◌<◌, ◌^◌, false, List, length, All}
+use Rattle.hw_base.specs.ByteSwap.{HasPairs}
+use Rattle.hw_base.specs.declared.numbers.TheConstants.{MOST_FRAMES}
+use Rattle.ir_arith.specs.Conversion.{IsConversion}
+use Rattle.ir_core.specs.Externals.{IsWidth}
+use Rattle.ir_core.specs.declared.lib_functions.Lib.{Lib}
+use Rattle.ir_core.specs.declared.lib_functions.Lib.TheVariants as lib
+use Rattle.mi_code.specs.declared.code_functions.CodeFunction.{CodeFunction}
+use Rattle.mi_code.specs.declared.code_functions.Mi.{Mi}
+use Rattle.mi_code.specs.declared.operations.MiOp.{MiOp}
+use Rattle.mi_code.specs.declared.operations.MiOp.TheVariants as machine
+use Rattle.ir_machine.specs.CallSteps.{is_entry}
+use Rattle.ir_machine.specs.Operands.{bits_in}
+use Rattle.ir_machine.specs.State.{MachineSetting}
+
+-- library functions that the machine runs
+abbrev pub IsBuiltFunction : Lib → Type 0
+IsBuiltFunction lib.Putchar = Unit {0}
+IsBuiltFunction lib.Exit = Unit {0}
+IsBuiltFunction lib.Abort = Unit {0}
+IsBuiltFunction lib.LlvmTrap = Unit {0}
+IsBuiltFunction other = ⊥
+
+abbrev pub IsBuiltOp : MiOp → Type 0
+IsBuiltOp (machine.Binary op width to a b) = IsWidth width
+IsBuiltOp (machine.Icmp pred width to a b) = IsWidth (bits_in width)
+IsBuiltOp (machine.Cast op from width to a) = IsWidth from × IsWidth width × IsConversion op from width
+IsBuiltOp (machine.Bits op width to args) = IsWidth width × HasPairs op width
+IsBuiltOp (machine.Overflow op width to a b) = IsWidth width
+IsBuiltOp (machine.Select to cond a b) = Unit {0}
+IsBuiltOp (machine.Freeze to a) = Unit {0}
+IsBuiltOp (machine.Part to pair part) = Unit {0}
+IsBuiltOp machine.Nop = Unit {0}
+IsBuiltOp (machine.Jump edge) = Unit {0}
+IsBuiltOp (machine.Branch cond first second) = Unit {0}
+IsBuiltOp (machine.Switch width on other cases) = IsWidth width
+IsBuiltOp (machine.Call func to args) = length args < 2 ^ 32
+IsBuiltOp (machine.CallLib function to args start) = IsBuiltFunction function
+IsBuiltOp (machine.Ret value) = Unit {0}
+IsBuiltOp machine.Unreachable = Unit {0}
+IsBuiltOp other = ⊥
+
+-- an instruction that the machine runs, and that is no entry
+pub record IsBuilt (mi : Mi) : Type 0 where
+  pub op : IsBuiltOp mi.op
+  pub no_entry : is_entry mi.mark ≡ false
+
+abbrev pub IsBuiltCode : List CodeFunction → Type 0
+IsBuiltCode code = All (λ (function : CodeFunction). All IsBuilt function.insts) code
+
+-- the setting has this code, and as many frames a task as the program's map says
+pub record HasCode (setting : MachineSetting) (functions : List CodeFunction) : Type 0 where
+  pub code : setting.code ≡ functions
+  pub most_frames : setting.places.most_frames ≡ MOST_FRAMES
+
+-- the instructions that take no memory of the host if the task goes on
+abbrev pub IsPlainOp : MiOp → Type 0
+IsPlainOp (machine.Binary op width to a b) = Unit {0}
+IsPlainOp (machine.Icmp pred width to a b) = Unit {0}
+IsPlainOp (machine.Cast op from width to a) = Unit {0}
+IsPlainOp (machine.Bits op width to args) = Unit {0}
+IsPlainOp (machine.Overflow op width to a b) = Unit {0}
+IsPlainOp (machine.Select to cond a b) = Unit {0}
+IsPlainOp (machine.Freeze to a) = Unit {0}
+IsPlainOp (machine.Part to pair part) = Unit {0}
+IsPlainOp machine.Nop = Unit {0}
+IsPlainOp other = ⊥
