@@ -1,3 +1,5 @@
+pub mod OneTask
+pub mod ChainGrowth
 pub mod TurnSteps
 pub mod BuiltCode
 pub mod Outcomes

@@ -8,6 +8,7 @@ pub mod CallSteps
 pub mod CheckSteps
 pub mod InstructionStep
 pub mod LibraryCalls
+pub mod MachineStates
 pub mod MemorySteps
 pub mod Operands
 pub mod ReachableWorlds

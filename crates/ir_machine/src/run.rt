@@ -138,6 +138,29 @@ impl Run {
         Progress::Ended
     }
 
+    /// A step with a number begins. A run has one task.
+    pub fn begin_step(&mut self, step: u64)
+        ensures begun { self.new ≡ record self.old { seen = record self.old.seen { step = step } } }
+        ensures task { self.old.seen.task ≡ 0 }
+        ensures finished { self.old.seen.finished ≡ false ∷ [] }
+    {
+        self.step = step;
+    }
+
+    /// How many bytes the last step printed that printed any.
+    pub fn printed_count(&self) -> u64
+        ensures { result ≡ length self.now.printed }
+    {
+        self.printed.len() as u64
+    }
+
+    /// How the run ended.
+    pub fn ending(&self) -> Ending
+        ensures { ending_of result ≡ self.now.ending }
+    {
+        self.ending
+    }
+
     /// How many frames the task has.
     pub fn depth(&self) -> u64
         ensures { result ≡ length self.now.seen.callers + 1 }

@@ -1,4 +1,4 @@
-ghost use Rattle.std.specs.Prelude.{◌≡◌, ◌≢◌, ℕ, ◌+◌, ◌-◌, ◌^◌, ◌<◌, length, slice_get, IfSome, Option};
+ghost use Rattle.std.specs.Prelude.{◌≡◌, ◌≢◌, ℕ, ◌+◌, ◌-◌, ◌^◌, ◌<◌, ◌≤◌, length, slice_get, IfSome, Option};
 ghost use Rattle.std.specs.Option.{ForSome};
 ghost use Rattle.ir_machine.specs.Built.{IsBuilt};
 ghost use Rattle.std.specs.Option.{option_copied};
@@ -61,6 +61,7 @@ pub fn turn(code: &Code, run: &mut Run, numbers: &mut Vec<u128>) -> Progress
         → IsOutcome (machine_step setting given run.old.seen) result run.new }
     ensures plain { (setting : MachineSetting) (given : Input) → HasCode setting code.now
         → ForSome (instruction_at code.now run.old.seen.frame) (λ mi. IsPlainOp mi.op → IsPlainOutcome (machine_step setting given run.old.seen) result run.new) }
+    ensures few { result ≢ Progress.NoMemory → length run.new.seen.shared.chains ≤ length run.old.seen.shared.chains + 1 }
 {
     match instruction_at(code, run.func(), run.place()) {
         Some(mi) => marked(code, run, numbers, mi),

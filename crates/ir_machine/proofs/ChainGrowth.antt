@@ -1,0 +1,149 @@
+-- A step adds one chain at most.
+use Rattle.std.proofs.Common.{◌≡◌, ◌≢◌, ℕ, zero, suc, ◌+◌, ◌≤◌, Bool, true, false, List, [], ◌∷◌, length, refl, ap, sym, subst, Option, Some, None, Result, Ok, Err, arith}
+use Rattle.std.specs.Prelude.{nat_le, slice_get}
+use Rattle.std.proofs.lemmas.List.{length_push}
+use Rattle.hw_base.specs.Bits.{is_set}
+use Rattle.hw_base.specs.declared.endings.Input.{Input}
+use Rattle.hw_base.specs.declared.endings.Trap.{Trap}
+use Rattle.hw_base.specs.declared.endings.Trap.TheVariants.{Abort, TooDeep, Unreachable}
+use Rattle.hw_base.specs.declared.pointers.Site.{Site}
+use Rattle.hw_tags.specs.TaskRuns.{Goes, Stays, Starts, Finishes, Ends, Stuck}
+use Rattle.ir_arith.specs.Binary.{binary_result}
+use Rattle.ir_core.specs.declared.lib_functions.Lib.{Lib}
+use Rattle.ir_core.specs.declared.lib_functions.Lib.TheVariants as lib
+use Rattle.dbg_sites.specs.ChainTable.{ChainEntry, pushed, numbered, entry_from}
+use Rattle.mi_code.specs.declared.code_functions.CodeFunction.{CodeFunction}
+use Rattle.mi_code.specs.declared.code_functions.Mark.{Mark}
+use Rattle.mi_code.specs.declared.code_functions.Mark.TheVariants.{Entry, Added, Source}
+use Rattle.mi_code.specs.declared.operands.MiOperand.{MiOperand}
+use Rattle.mi_code.specs.declared.operations.MiOp.{MiOp}
+use Rattle.mi_code.specs.declared.operations.MiOp.TheVariants as machine
+use Rattle.ir_tasks.specs.Frames.{Frame}
+use Rattle.ir_machine.specs.declared.progress.Progress.{Progress}
+use Rattle.ir_machine.specs.declared.progress.Progress.TheVariants.{Ran, Printed, Returned, Ended, NoMemory}
+use Rattle.ir_machine.specs.ArithmeticSteps.{binary_step, icmp_step, cast_step, bits_step, overflow_step, select_step, freeze_step, extract_step, gives_or_traps}
+use Rattle.ir_machine.specs.BranchSteps.{br_step, br_if_step, switch_step, unreachable_step}
+use Rattle.ir_machine.specs.Built.{IsBuiltOp, IsBuiltFunction, IsBuiltCode, HasCode}
+use Rattle.ir_machine.specs.CallSteps.{code_at, begins_with_entry, call_step, entered_call, entry_if, on_entry, frame_left, last_left, ret_step}
+use Rattle.ir_machine.specs.InstructionStep.{operation_step, marked_step}
+use Rattle.ir_machine.specs.LibraryCalls.{library_step}
+use Rattle.ir_machine.specs.Operands.{integer_in}
+use Rattle.ir_machine.specs.RunStates.{RunState, IsOutcome}
+use Rattle.ir_machine.specs.State.{MachineSetting, MachineSeen, MachineOutcome, MachineShared}
+use Rattle.ir_machine.specs.StepEnds.{traps, chain_known}
+use Rattle.ir_machine.specs.TextFunctions.{putchar_step, exit_step, abort_step}
+use Rattle.ir_machine.proofs.BuiltCode.{built-no_entry}
+
+length-pushed : (table : List ChainEntry) (rest : ℕ) (site : Site) → length (pushed table rest site).table ≤ length table + 1
+unfolding pushed
+length-pushed table rest site = by (entry_from table site rest 0)
+  where
+    by : (o : Option ℕ) → length (numbered table site rest o).table ≤ length table + 1
+    by (Some place) = omega arith
+    by None = let more = length_push table (record { site = site; rest = rest }) in omega arith
+
+-- the outcome has so many chains at most
+pub HasFew : ℕ → MachineOutcome → Type 0
+HasFew n (Goes s report) = length s.shared.chains ≤ n
+HasFew n Stays = Unit {0}
+HasFew n (Starts s report frame) = Unit {0}
+HasFew n (Finishes shared report) = Unit {0}
+HasFew n (Ends shared frames report ending) = length shared.chains ≤ n
+HasFew n Stuck = Unit {0}
+
+traps-few : (s : MachineSeen) (site : Site) (trap : Trap) → HasFew (length s.shared.chains + 1) (traps s site trap)
+unfolding HasFew
+traps-few s site trap = length-pushed s.shared.chains s.frame.chain site
+
+gives_or_traps-few : (s : MachineSeen) (site : Site) (to : ℕ) (r : Result ℕ Trap) → HasFew (length s.shared.chains + 1) (gives_or_traps s site to r)
+unfolding HasFew
+gives_or_traps-few s site to (Ok n) = omega arith
+gives_or_traps-few s site to (Err trap) = traps-few s site trap
+
+last_left-few : (n task : ℕ) (shared : MachineShared) (value : ℕ) → length shared.chains ≤ n → HasFew n (last_left task shared value)
+unfolding HasFew
+last_left-few n zero shared value h = h
+last_left-few n (suc task) shared value h = tt
+
+frame_left-few : (setting : MachineSetting) (s : MachineSeen) (callers : List Frame) (value : Option ℕ) → HasFew (length s.shared.chains + 1) (frame_left setting s callers value)
+unfolding HasFew
+frame_left-few setting s [] value = last_left-few (length s.shared.chains + 1) s.task s.shared _ (omega arith)
+frame_left-few setting s (caller ∷ callers) value = omega arith
+
+call-few : (setting : MachineSetting) (s : MachineSeen) (site : Site) (func : ℕ) (args : List MiOperand) → begins_with_entry (code_at setting.code func).insts ≡ false
+    → HasFew (length s.shared.chains + 1) (call_step setting s site func args)
+unfolding HasFew call_step
+call-few setting s site func args plain = by (nat_le setting.places.most_frames (suc (length s.callers))) refl
+  where
+    by : (deep : Bool) → nat_le setting.places.most_frames (suc (length s.callers)) ≡ deep → HasFew (length s.shared.chains + 1) (call_step setting s site func args)
+    by true e = rw e (traps-few s site TooDeep)
+    by false e = rw (e, plain) (length-pushed s.shared.chains s.frame.chain site)
+
+library-few : (setting : MachineSetting) (given : Input) (s : MachineSeen) (site : Site) (function : Lib) (to : Option ℕ) (args : List MiOperand) (start : Option ℕ)
+    → IsBuiltFunction function → HasFew (length s.shared.chains + 1) (library_step setting given s site function to args start)
+unfolding HasFew putchar_step exit_step abort_step
+library-few setting given s site lib.Putchar to args start h = by to
+  where
+    by : (to : Option ℕ) → HasFew (length s.shared.chains + 1) (library_step setting given s site lib.Putchar to args start)
+    by None = omega arith
+    by (Some r) = omega arith
+library-few setting given s site lib.Exit to args start h = omega arith
+library-few setting given s site lib.Abort to args start h = traps-few s site Abort
+library-few setting given s site lib.LlvmTrap to args start h = traps-few s site Abort
+library-few setting given s site other to args start h = absurd h
+
+-- each instruction that the machine runs adds one chain at most
+pub operation-few : (setting : MachineSetting) (given : Input) (site : Site) (next : MachineSeen → MachineOutcome) (s : MachineSeen) (op : MiOp)
+    → IsBuiltOp op → IsBuiltCode setting.code → HasFew (length s.shared.chains + 1) (operation_step setting given site next s op)
+unfolding HasFew binary_step icmp_step cast_step bits_step overflow_step select_step freeze_step extract_step br_step br_if_step switch_step unreachable_step ret_step
+operation-few setting given site next s (machine.Binary op width to a b) h all = gives_or_traps-few s site to _
+operation-few setting given site next s (machine.Icmp pred width to a b) h all = omega arith
+operation-few setting given site next s (machine.Cast op from width to a) h all = omega arith
+operation-few setting given site next s (machine.Bits op width to args) h all = omega arith
+operation-few setting given site next s (machine.Overflow op width to a b) h all = omega arith
+operation-few setting given site next s (machine.Select to cond a b) h all = omega arith
+operation-few setting given site next s (machine.Freeze to a) h all = omega arith
+operation-few setting given site next s (machine.Part to pair part) h all = omega arith
+operation-few setting given site next s machine.Nop h all = omega arith
+operation-few setting given site next s (machine.Jump edge) h all = omega arith
+operation-few setting given site next s (machine.Branch cond first second) h all = omega arith
+operation-few setting given site next s (machine.Switch width on other cases) h all = omega arith
+operation-few setting given site next s (machine.Call func to args) h all = call-few setting s site func args (built-no_entry setting.code func all)
+operation-few setting given site next s (machine.CallLib function to args start) h all = library-few setting given s site function to args start h
+operation-few setting given site next s (machine.Ret value) h all = frame_left-few setting s s.callers _
+operation-few setting given site next s machine.Unreachable h all = traps-few s site Unreachable
+operation-few setting given site next s other h all = absurd h
+
+-- so does a marked one
+pub marked-few : (setting : MachineSetting) (given : Input) (next : MachineSeen → MachineOutcome) (s : MachineSeen) (mark : Mark) (op : MiOp)
+    → IsBuiltOp op → IsBuiltCode setting.code → HasFew (length s.shared.chains + 1) (marked_step setting given next s mark op)
+unfolding HasFew
+marked-few setting given next s Entry op h all = tt
+marked-few setting given next s (Added site) op h all = operation-few setting given site next s op h all
+marked-few setting given next s (Source site) op h all = operation-few setting given site next s op h all
+
+-- some setting with this code
+unfoldable pub setting_with : List CodeFunction → MachineSetting
+setting_with code =
+    record {
+      places = record { globals_at = 0; stacks_at = 0; stack_length = 0; most_tasks = 1; most_frames = 4096; heap_at = 0; heap_length = 0 };
+      program = record { types = []; fields = []; layouts = []; globals = []; declares = []; functions = []; main = 0; meta = [] };
+      code = code;
+      word = λ i. 0;
+      ring = 1;
+      input = [];
+    }
+
+pub setting_with-code : (code : List CodeFunction) → HasCode (setting_with code) code
+unfolding setting_with
+setting_with-code code = record { code = refl; most_frames = refl }
+
+-- so has the state that the progress and the run are
+pub outcome-few : (n : ℕ) (outcome : MachineOutcome) (progress : Progress) (v : RunState) → IsOutcome outcome progress v → progress ≢ NoMemory → HasFew n outcome
+    → length v.seen.shared.chains ≤ n
+unfolding HasFew
+outcome-few n outcome Ran v h some few = subst (HasFew n) h few
+outcome-few n outcome Printed v h some few = subst (HasFew n) h few
+outcome-few n outcome Returned v h some few = subst (HasFew n) h few
+outcome-few n outcome Ended v h some few = subst (HasFew n) h few
+outcome-few n outcome NoMemory v h some few = absurd (some refl)

@@ -1,0 +1,76 @@
+-- A step of the run of one task.
+use Rattle.std.proofs.Common.{◌≡◌, ◌≢◌, ℕ, ◌+◌, ◌%◌, ◌⊎◌, inl, inr, false, true, List, [], ◌∷◌, length, refl, ap, sym, ◌∙◌, subst, Result, Ok, Err, arith}
+use Rattle.hw_base.specs.declared.endings.Input.{Input}
+use Rattle.hw_base.specs.declared.out_of_memory.OutOfMemory.{OutOfMemory}
+use Rattle.hw_tags.specs.Turn.{unfinished_from}
+use Rattle.hw_tags.specs.TaskRuns.{Goes, Stays, Starts, Finishes, Ends, Stuck, Next, Last, NoStep, world_step, lifted, counted}
+use Rattle.ir_machine.specs.declared.progress.Progress.{Progress}
+use Rattle.ir_machine.specs.declared.progress.Progress.TheVariants.{Ran, Printed, Returned, Ended, NoMemory}
+use Rattle.ir_machine.specs.declared.stepped.Stepped.{Stepped}
+use Rattle.ir_machine.specs.declared.stepped.Stepped.TheVariants as stepped
+use Rattle.ir_machine.specs.InstructionStep.{machine_step}
+use Rattle.ir_machine.specs.MachineStates.{MachineState, world_of, IsEnd, IsStep}
+use Rattle.ir_machine.specs.RunStates.{RunState, IsOutcome}
+use Rattle.ir_machine.specs.State.{MachineSetting, MachineSeen, MachineOutcome, MachineWorld, MachineWorldStep}
+
+-- the only task makes the step, whatever the turn words
+one-task : (step : MachineSeen → MachineOutcome) (turns : ℕ → ℕ) (m : MachineState) (seen : MachineSeen) → m.run.seen.task ≡ 0 → m.run.seen.finished ≡ false ∷ []
+    → seen ≡ record m.run.seen { step = m.steps + 1 }
+    → world_step step [] turns (world_of m) ≡ lifted (record (world_of m) { steps = m.steps + 1 }) 0 [] (step seen)
+unfolding world_step unfinished_from
+one-task step turns m seen task finished same =
+    let only : turns 0 % 1 ≡ 0 = omega arith in
+    let whole : seen ≡ record { shared = m.run.seen.shared; task = 0; frame = m.run.seen.frame; callers = m.run.seen.callers; finished = false ∷ []; step = m.steps + 1 } =
+        same ∙ (rw (task, finished) refl) in
+    rw (only, whole) refl
+
+-- what a step's progress is returned as
+unfoldable pub IsAnswer : Progress → Result Stepped OutOfMemory → MachineState → Type 0
+IsAnswer Ran (Ok stepped.Ran) m = Unit {0}
+IsAnswer Printed (Ok (stepped.Wrote count)) m = count ≡ length m.run.printed
+IsAnswer Returned (Ok found) m = IsEnd m.run.ending found
+IsAnswer Ended (Ok found) m = IsEnd m.run.ending found
+IsAnswer NoMemory (Err error) m = m.lost ≡ true
+IsAnswer progress result m = ⊥
+
+stuck-or : {X : Type 0} → (outcome : MachineOutcome) → (outcome ≢ Stuck → X) → (outcome ≡ Stuck) ⊎ X
+stuck-or (Goes s report) h = inr (h (λ e. cc))
+stuck-or Stays h = inr (h (λ e. cc))
+stuck-or (Starts s report frame) h = inr (h (λ e. cc))
+stuck-or (Finishes shared report) h = inr (h (λ e. cc))
+stuck-or (Ends shared frames report ending) h = inr (h (λ e. cc))
+stuck-or Stuck h = inl refl
+
+lifted-step : (before after : MachineState) (outcome : MachineOutcome) (progress : Progress) (result : Result Stepped OutOfMemory)
+    → IsOutcome outcome progress after.run → IsAnswer progress result after → after.steps ≡ before.steps + 1
+    → IsStep (lifted (record (world_of before) { steps = before.steps + 1 }) 0 [] outcome) result after
+unfolding IsAnswer
+lifted-step before after outcome Ran (Ok stepped.Ran) h answer count = rw (h, count) (refl, refl)
+lifted-step before after outcome Printed (Ok (stepped.Wrote n)) h answer count = rw (h, count) (refl, refl, answer)
+lifted-step before after outcome Returned (Ok found) h answer count = rw h (refl, refl, answer)
+lifted-step before after outcome Ended (Ok found) h answer count = rw h (refl, refl, answer)
+lifted-step before after outcome NoMemory (Err error) h answer count = by outcome
+  where
+    by : (outcome : MachineOutcome) → IsStep (lifted (record (world_of before) { steps = before.steps + 1 }) 0 [] outcome) (Err error) after
+    by (Goes s report) = answer
+    by Stays = answer
+    by (Starts s report frame) = answer
+    by (Finishes shared report) = answer
+    by (Ends shared frames report ending) = answer
+    by Stuck = tt
+lifted-step before after outcome progress result h answer count = absurd answer
+
+-- the machine's step is the definition's
+pub machine-stepped : (setting : MachineSetting) (given : Input) (turns : ℕ → ℕ) (before after : MachineState) (begun : RunState) (progress : Progress) (result : Result Stepped OutOfMemory)
+    → before.run.seen.task ≡ 0 → before.run.seen.finished ≡ false ∷ [] → begun ≡ record before.run { seen = record before.run.seen { step = before.steps + 1 } }
+    → (machine_step setting given begun.seen ≢ Stuck → IsOutcome (machine_step setting given begun.seen) progress after.run)
+    → IsAnswer progress result after → after.steps ≡ before.steps + 1
+    → IsStep (world_step (machine_step setting given) [] turns (world_of before)) result after
+machine-stepped setting given turns before after begun progress result task finished same h answer count =
+    let step = one-task (machine_step setting given) turns before begun.seen task finished (ap (λ (v : RunState). v.seen) same) in
+    subst (λ (s : MachineWorldStep). IsStep s result after) (sym step) (by (stuck-or (machine_step setting given begun.seen) h))
+  where
+    by : (machine_step setting given begun.seen ≡ Stuck) ⊎ IsOutcome (machine_step setting given begun.seen) progress after.run
+        → IsStep (lifted (record (world_of before) { steps = before.steps + 1 }) 0 [] (machine_step setting given begun.seen)) result after
+    by (inl stuck) = rw stuck tt
+    by (inr goes) = lifted-step before after (machine_step setting given begun.seen) progress result goes answer count

@@ -1,0 +1,81 @@
+ghost use Rattle.std.specs.Prelude.{◌≡◌, ℕ, ◌+◌, ◌<◌, ◌≤◌, false, true, [], IsErr};
+ghost use Rattle.hw_base.specs.declared.endings.Input.{Input};
+ghost use Rattle.ir_machine.specs.RunStates.{ending_of};
+ghost use Rattle.ir_machine.specs.MachineStates.{IsEnd};
+ghost use Rattle.hw_base.specs.declared.numbers.TheConstants.{MOST_STEPS};
+
+use crate::progress::{Ending, Progress};
+use crate::run::Run;
+use crate::stepped::Stepped;
+use crate::turn::turn;
+use hw_base::OutOfMemory;
+use mi_code::Code;
+use std::marker::Model;
+
+/// A run of instrumented code, step by step. The instructions that it runs are those that take no memory of the program.
+#[derive(Drop)]
+pub struct Machine {
+    code: Code,
+    run: Run,
+    numbers: Vec<u128>,
+    steps: u64,
+    lost: bool,
+}
+
+impl Model for Machine {
+    ghost use Rattle.ir_machine.specs.MachineStates.{MachineState, IsReady};
+
+    ghost Value = { MachineState };
+
+    ghost view = { λ m. record { code = m.code; run = m.run; steps = m.steps; lost = m.lost } };
+
+    ghost invariant = { λ m. IsReady (record { code = m.code; run = m.run; steps = m.steps; lost = m.lost }) };
+}
+
+/// The end of a run, as a step returns it.
+#[inline(never)]
+fn ended(ending: Ending) -> Stepped
+    ensures { IsEnd (ending_of ending) result }
+{
+    match ending {
+        Ending::Exit(value) => Stepped::Exit(value.cast_signed()),
+        Ending::Trap { trap, task, chain } => Stepped::Trap { trap, task, chain },
+    }
+}
+
+impl Machine {
+    ghost use Rattle.hw_tags.specs.TaskRuns.{world_step, NoStep};
+    ghost use Rattle.ir_machine.specs.State.{MachineSetting};
+    ghost use Rattle.ir_machine.specs.Built.{IsBuiltCode, HasCode};
+    ghost use Rattle.ir_machine.specs.InstructionStep.{machine_step};
+    ghost use Rattle.ir_machine.specs.MachineStates.{IsStep, world_of};
+
+    /// One step of the run: one source instruction of the task. It makes the step that the definition makes, whatever the
+    /// input, which no instruction here reads. After `OutOfMemory` each later step returns `OutOfMemory`.
+    #[inline(always)]
+    pub fn step(&mut self) -> Result<Stepped, OutOfMemory>
+        requires { self.old.steps < MOST_STEPS }
+        ensures step { (setting : MachineSetting) (given : Input) (turns : ℕ → ℕ) → HasCode setting self.old.code
+            → self.old.lost ≡ false
+            → IsStep (world_step (machine_step setting given) [] turns (world_of self.old)) result self.new }
+        ensures lost { self.old.lost ≡ true → IsErr result }
+        ensures count { self.new.steps ≤ self.old.steps + 1 }
+        ensures code { self.new.code ≡ self.old.code }
+    {
+        if self.lost {
+            return Err(OutOfMemory);
+        }
+        self.steps += 1;
+        self.run.begin_step(self.steps);
+        match turn(&self.code, &mut self.run, &mut self.numbers) {
+            Progress::Ran => Ok(Stepped::Ran),
+            Progress::Printed => Ok(Stepped::Wrote(self.run.printed_count())),
+            Progress::Returned => Ok(ended(self.run.ending())),
+            Progress::Ended => Ok(ended(self.run.ending())),
+            Progress::NoMemory => {
+                self.lost = true;
+                Err(OutOfMemory)
+            }
+        }
+    }
+}
