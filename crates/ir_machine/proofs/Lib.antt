@@ -1,3 +1,4 @@
+pub mod StartLemmas
 pub mod OneTask
 pub mod ChainGrowth
 pub mod TurnSteps

@@ -8,7 +8,11 @@ use Rattle.ir_machine.specs.declared.stepped.Stepped.{Stepped}
 use Rattle.ir_machine.specs.declared.stepped.Stepped.TheVariants as stepped
 use Rattle.ir_machine.specs.Built.{IsBuiltCode}
 use Rattle.ir_machine.specs.RunStates.{RunState}
-use Rattle.ir_machine.specs.State.{MachineWorld, MachineWorldStep, MachineEnding, Exited, Trapped, Reported, IsFull}
+use Rattle.ir_machine.specs.Start.{machine_start}
+use Rattle.hw_base.specs.AddressMap.{program_map}
+use Rattle.hw_tags.specs.declared.options.Options.{Options}
+use Rattle.ir_core.specs.declared.ir_module.Module.{Module}
+use Rattle.ir_machine.specs.State.{MachineSetting, MachineWorld, MachineWorldStep, MachineEnding, Exited, Trapped, Reported, IsFull}
 
 -- the code, the run, how many steps were made, and whether memory has run out
 pub record MachineState : Type 0 where
@@ -52,3 +56,17 @@ IsStep (Next w printed) (Ok found) m = GoesOn w printed found m
 IsStep (Last w printed ending) (Ok found) m = (w.shared ≡ m.run.seen.shared) × (printed ≡ []) × IsEnd ending found
 IsStep NoStep result m = Unit {0}
 IsStep step (Err error) m = m.lost ≡ true
+
+-- a setting of a module without globals, its code, and options
+pub record IsSettingOf (setting : MachineSetting) (program : Module) (functions : List CodeFunction) (options : Options) : Type 0 where
+  pub program_is : setting.program ≡ program
+  pub code_is : setting.code ≡ functions
+  pub places_are : setting.places ≡ program_map options.heap
+  pub ring_is : setting.ring ≡ options.ring
+
+-- the machine before the first step of a run
+pub record IsStarted (program : Module) (functions : List CodeFunction) (options : Options) (m : MachineState) : Type 0 where
+  pub code : m.code ≡ functions
+  pub steps : m.steps ≡ 0
+  pub lost : m.lost ≡ false
+  pub world : (setting : MachineSetting) → IsSettingOf setting program functions options → machine_start setting ≡ Next (world_of m) []

@@ -81,3 +81,12 @@ abbrev pub moves_with : List Move → List ℕ → List (ℕ × ℕ)
 moves_with [] numbers = []
 moves_with (move ∷ moves) [] = []
 moves_with (move ∷ moves) (n ∷ numbers) = (move.to, n) ∷ moves_with moves numbers
+
+-- the state before the first step
+abbrev pub first_state : (heap ring : ℕ) → Frame → RunState
+first_state heap ring frame =
+    record {
+      seen = only_task (untouched heap ring []) (record { frame = frame; callers = [] }) 0;
+      printed = [];
+      ending = Exited 0;
+    }

@@ -37,7 +37,7 @@ fn register_at(code: &Code, func: u32, place: usize) -> Option<u32>
 }
 
 /// How many registers a frame of a function has.
-fn registers_of(code: &Code, func: u32) -> u32
+pub fn registers_of(code: &Code, func: u32) -> u32
     ensures { result ≡ (code_at code.now func).registers }
 {
     match code.get(func as u64) {

@@ -1,15 +1,19 @@
-ghost use Rattle.std.specs.Prelude.{◌≡◌, ℕ, ◌+◌, ◌<◌, ◌≤◌, false, true, [], IsErr};
+ghost use Rattle.std.specs.Prelude.{◌≡◌, ℕ, ◌+◌, ◌<◌, ◌≤◌, false, true, [], length, IsErr, IfOk};
 ghost use Rattle.hw_base.specs.declared.endings.Input.{Input};
 ghost use Rattle.ir_machine.specs.RunStates.{ending_of};
 ghost use Rattle.ir_machine.specs.MachineStates.{IsEnd};
 ghost use Rattle.hw_base.specs.declared.numbers.TheConstants.{MOST_STEPS};
 
+use crate::calls::registers_of;
 use crate::progress::{Ending, Progress};
 use crate::run::Run;
 use crate::stepped::Stepped;
 use crate::turn::turn;
 use hw_base::OutOfMemory;
+use hw_tags::Options;
+use ir_core::Module;
 use mi_code::Code;
+use std::alloc::Global;
 use std::marker::Model;
 
 /// A run of instrumented code, step by step. The instructions that it runs are those that take no memory of the program.
@@ -48,7 +52,26 @@ impl Machine {
     ghost use Rattle.ir_machine.specs.State.{MachineSetting};
     ghost use Rattle.ir_machine.specs.Built.{IsBuiltCode, HasCode};
     ghost use Rattle.ir_machine.specs.InstructionStep.{machine_step};
-    ghost use Rattle.ir_machine.specs.MachineStates.{IsStep, world_of};
+    ghost use Rattle.ir_machine.specs.MachineStates.{IsStep, IsStarted, world_of};
+
+    /// The machine before the first step: `main` is entered. The module has no globals, the code is that of its functions and
+    /// has only instructions that the machine runs, and `main` is one of them. The only error is that memory ran out.
+    pub fn new(alloc: Global, module: &Module, code: Code, options: &Options) -> Result<Machine, OutOfMemory>
+        requires built { IsBuiltCode code }
+        requires no_globals { module.now.globals ≡ [] }
+        requires main { module.now.main < length code }
+        ensures { IfOk result (λ m. IsStarted module.now code options.now m) }
+    {
+        let registers = registers_of(&code, module.main);
+        let run = Run::new(alloc, module.main, registers, options.heap, options.ring)?;
+        Ok(Machine {
+            code,
+            run,
+            numbers: Vec::new(alloc),
+            steps: 0,
+            lost: false,
+        })
+    }
 
     /// One step of the run: one source instruction of the task. It makes the step that the definition makes, whatever the
     /// input, which no instruction here reads. After `OutOfMemory` each later step returns `OutOfMemory`.

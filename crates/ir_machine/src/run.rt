@@ -1,4 +1,4 @@
-ghost use Rattle.std.specs.Prelude.{◌≡◌, ℕ, ◌+◌, ◌-◌, ◌^◌, ◌<◌, ◌≤◌, length, [], ◌∷◌, OnOk, true, false, unwrap_or};
+ghost use Rattle.std.specs.Prelude.{◌≡◌, ℕ, ◌+◌, ◌-◌, ◌^◌, ◌<◌, ◌≤◌, length, [], ◌∷◌, OnOk, IfOk, true, false, unwrap_or};
 
 use crate::progress::{Ending, Progress};
 use dbg_sites::Chains;
@@ -6,6 +6,7 @@ use hw_base::{OutOfMemory, Site, Trap};
 use ir_arith::wrap;
 use ir_tasks::CallStack;
 use mi_code::MiOperand;
+use std::alloc::Global;
 use std::marker::Model;
 
 /// What a run has in hand: the frames of its task, the chains of sites, the number of the step, what the last step
@@ -40,7 +41,24 @@ impl Run {
     ghost use Rattle.ir_machine.specs.StepEnds.{gives, goes_on, traps, ends, prints, with_number, with_result, chain_known, chain_at};
     ghost use Rattle.ir_machine.specs.CallSteps.{last_left};
     ghost use Rattle.ir_tasks.specs.CallStacks.{fresh_frame};
-    ghost use Rattle.ir_machine.specs.RunStates.{IsOutcome, IsPlainOutcome, with_frame, ending_of};
+    ghost use Rattle.ir_machine.specs.RunStates.{IsOutcome, IsPlainOutcome, with_frame, ending_of, first_state};
+
+    /// A run that begins with a function, whose frame has so many registers, for a heap of so many bytes and rings of so many
+    /// records. No step was made.
+    pub fn new(alloc: Global, func: u32, registers: u32, heap: u64, ring: u32) -> Result<Run, OutOfMemory>
+        ensures { IfOk result (λ r. r ≡ first_state heap ring (fresh_frame func registers 0 0)) }
+    {
+        let calls = CallStack::new(alloc, func, registers, 0, 0)?;
+        Ok(Run {
+            calls,
+            chains: Chains::new(alloc),
+            step: 0,
+            heap,
+            ring,
+            printed: Vec::new(alloc),
+            ending: Ending::Exit(0),
+        })
+    }
 
     /// The number that an operand is.
     pub fn number(&self, operand: &MiOperand) -> u128
