@@ -1,6 +1,5 @@
 -- A step of the run of one task.
 use Rattle.std.proofs.Common.{◌≡◌, ◌≢◌, ℕ, ◌+◌, ◌%◌, ◌⊎◌, inl, inr, false, true, List, [], ◌∷◌, length, refl, ap, sym, ◌∙◌, subst, Result, Ok, Err, arith}
-use Rattle.hw_base.specs.declared.endings.Input.{Input}
 use Rattle.hw_base.specs.declared.out_of_memory.OutOfMemory.{OutOfMemory}
 use Rattle.hw_tags.specs.Turn.{unfinished_from}
 use Rattle.hw_tags.specs.TaskRuns.{Goes, Stays, Starts, Finishes, Ends, Stuck, Next, Last, NoStep, world_step, lifted, counted}
@@ -8,13 +7,13 @@ use Rattle.ir_machine.specs.declared.progress.Progress.{Progress}
 use Rattle.ir_machine.specs.declared.progress.Progress.TheVariants.{Ran, Printed, Returned, Ended, NoMemory}
 use Rattle.ir_machine.specs.declared.stepped.Stepped.{Stepped}
 use Rattle.ir_machine.specs.declared.stepped.Stepped.TheVariants as stepped
-use Rattle.ir_machine.specs.InstructionStep.{machine_step}
+use Rattle.ir_machine.specs.Runs.{step_in}
 use Rattle.ir_machine.specs.MachineStates.{MachineState, world_of, IsEnd, IsStep}
-use Rattle.ir_machine.specs.RunStates.{RunState, IsOutcome}
+use Rattle.ir_machine.specs.RunStates.{RunState, IsOutcome, EndsRun}
 use Rattle.ir_machine.specs.State.{MachineSetting, MachineSeen, MachineOutcome, MachineWorld, MachineWorldStep}
 
 -- the only task makes the step, whatever the turn words
-one-task : (step : MachineSeen → MachineOutcome) (turns : ℕ → ℕ) (m : MachineState) (seen : MachineSeen) → m.run.seen.task ≡ 0 → m.run.seen.finished ≡ false ∷ []
+pub one-task : (step : MachineSeen → MachineOutcome) (turns : ℕ → ℕ) (m : MachineState) (seen : MachineSeen) → m.run.seen.task ≡ 0 → m.run.seen.finished ≡ false ∷ []
     → seen ≡ record m.run.seen { step = m.steps + 1 }
     → world_step step [] turns (world_of m) ≡ lifted (record (world_of m) { steps = m.steps + 1 }) 0 [] (step seen)
 unfolding world_step unfinished_from
@@ -61,16 +60,25 @@ lifted-step before after outcome NoMemory (Err error) h answer count = by outcom
 lifted-step before after outcome progress result h answer count = absurd answer
 
 -- the machine's step is the definition's
-pub machine-stepped : (setting : MachineSetting) (given : Input) (turns : ℕ → ℕ) (before after : MachineState) (begun : RunState) (progress : Progress) (result : Result Stepped OutOfMemory)
+pub machine-stepped : (setting : MachineSetting) (turns : ℕ → ℕ) (before after : MachineState) (begun : RunState) (progress : Progress) (result : Result Stepped OutOfMemory)
     → before.run.seen.task ≡ 0 → before.run.seen.finished ≡ false ∷ [] → begun ≡ record before.run { seen = record before.run.seen { step = before.steps + 1 } }
-    → (machine_step setting given begun.seen ≢ Stuck → IsOutcome (machine_step setting given begun.seen) progress after.run)
+    → (step_in setting begun.seen ≢ Stuck → IsOutcome (step_in setting begun.seen) progress after.run)
     → IsAnswer progress result after → after.steps ≡ before.steps + 1
-    → IsStep (world_step (machine_step setting given) [] turns (world_of before)) result after
-machine-stepped setting given turns before after begun progress result task finished same h answer count =
-    let step = one-task (machine_step setting given) turns before begun.seen task finished (ap (λ (v : RunState). v.seen) same) in
-    subst (λ (s : MachineWorldStep). IsStep s result after) (sym step) (by (stuck-or (machine_step setting given begun.seen) h))
+    → IsStep (world_step (step_in setting) [] turns (world_of before)) result after
+machine-stepped setting turns before after begun progress result task finished same h answer count =
+    let step = one-task (step_in setting) turns before begun.seen task finished (ap (λ (v : RunState). v.seen) same) in
+    subst (λ (s : MachineWorldStep). IsStep s result after) (sym step) (by (stuck-or (step_in setting begun.seen) h))
   where
-    by : (machine_step setting given begun.seen ≡ Stuck) ⊎ IsOutcome (machine_step setting given begun.seen) progress after.run
-        → IsStep (lifted (record (world_of before) { steps = before.steps + 1 }) 0 [] (machine_step setting given begun.seen)) result after
+    by : (step_in setting begun.seen ≡ Stuck) ⊎ IsOutcome (step_in setting begun.seen) progress after.run
+        → IsStep (lifted (record (world_of before) { steps = before.steps + 1 }) 0 [] (step_in setting begun.seen)) result after
     by (inl stuck) = rw stuck tt
-    by (inr goes) = lifted-step before after (machine_step setting given begun.seen) progress result goes answer count
+    by (inr goes) = lifted-step before after (step_in setting begun.seen) progress result goes answer count
+
+-- a step that ends the run is no step after which it goes on
+pub ended-no-next : (w v : MachineWorld) (printed : List ℕ) (outcome : MachineOutcome) → EndsRun outcome → lifted w 0 [] outcome ≡ Next v printed → ⊥
+ended-no-next w v printed (Goes s report) ends same = ends
+ended-no-next w v printed Stays ends same = ends
+ended-no-next w v printed (Starts s report frame) ends same = ends
+ended-no-next w v printed (Finishes shared report) ends same = ends
+ended-no-next w v printed (Ends shared frames report ending) ends same = cc
+ended-no-next w v printed Stuck ends same = ends

@@ -54,10 +54,10 @@ only_task shared calls step =
       step = step;
     }
 
--- the outcome isn't that the task goes on
-abbrev pub EndsTask : MachineOutcome → Type 0
-EndsTask (Goes s report) = ⊥
-EndsTask other = Unit {0}
+-- the outcome is that the run ends
+abbrev pub EndsRun : MachineOutcome → Type 0
+EndsRun (Ends shared frames report ending) = Unit {0}
+EndsRun other = ⊥
 
 -- The progress of a step and the state after it are an outcome. If memory ran out nothing is said.
 abbrev pub IsOutcome : MachineOutcome → Progress → RunState → Type 0
@@ -67,9 +67,9 @@ IsOutcome outcome Returned v = outcome ≡ Ends v.seen.shared [] [] v.ending
 IsOutcome outcome Ended v = outcome ≡ Ends v.seen.shared (v.seen.frame ∷ v.seen.callers) [] v.ending
 IsOutcome outcome NoMemory v = Unit {0}
 
--- The same of a step that takes no memory if the task goes on.
+-- The same of a step that takes no memory unless the run ends.
 abbrev pub IsPlainOutcome : MachineOutcome → Progress → RunState → Type 0
-IsPlainOutcome outcome NoMemory v = EndsTask outcome
+IsPlainOutcome outcome NoMemory v = EndsRun outcome
 IsPlainOutcome outcome progress v = IsOutcome outcome progress v
 
 -- the state with another frame that runs

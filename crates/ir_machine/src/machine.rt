@@ -1,5 +1,4 @@
-ghost use Rattle.std.specs.Prelude.{◌≡◌, ℕ, ◌+◌, ◌<◌, ◌≤◌, false, true, [], length, IsErr, IfOk};
-ghost use Rattle.hw_base.specs.declared.endings.Input.{Input};
+ghost use Rattle.std.specs.Prelude.{◌≡◌, ℕ, ◌+◌, ◌<◌, ◌≤◌, false, true, [], length, slice_get, IsErr, IsOk, IfOk, List};
 ghost use Rattle.ir_machine.specs.RunStates.{ending_of};
 ghost use Rattle.ir_machine.specs.MachineStates.{IsEnd};
 ghost use Rattle.hw_base.specs.declared.numbers.TheConstants.{MOST_STEPS};
@@ -48,10 +47,12 @@ fn ended(ending: Ending) -> Stepped
 }
 
 impl Machine {
-    ghost use Rattle.hw_tags.specs.TaskRuns.{world_step, NoStep};
-    ghost use Rattle.ir_machine.specs.State.{MachineSetting};
-    ghost use Rattle.ir_machine.specs.Built.{IsBuiltCode, HasCode};
-    ghost use Rattle.ir_machine.specs.InstructionStep.{machine_step};
+    ghost use Rattle.hw_tags.specs.TaskRuns.{world_step, Next};
+    ghost use Rattle.mi_code.specs.declared.code_functions.Mi.{Mi};
+    ghost use Rattle.ir_machine.specs.CallSteps.{instruction_at};
+    ghost use Rattle.ir_machine.specs.State.{MachineSetting, MachineWorld};
+    ghost use Rattle.ir_machine.specs.Built.{IsBuiltCode, IsPlainOp, HasCode};
+    ghost use Rattle.ir_machine.specs.Runs.{step_in};
     ghost use Rattle.ir_machine.specs.MachineStates.{IsStep, IsStarted, world_of};
 
     /// The machine before the first step: `main` is entered. The module has no globals, the code is that of its functions and
@@ -73,16 +74,34 @@ impl Machine {
         })
     }
 
-    /// One step of the run: one source instruction of the task. It makes the step that the definition makes, whatever the
-    /// input, which no instruction here reads. After `OutOfMemory` each later step returns `OutOfMemory`.
+    /// Byte number i of those that the last step wrote that wrote any, counted from 0, or none if there are no more.
+    pub fn wrote(&self, i: u64) -> Option<u8>
+        ensures { result ≡ slice_get self.now.run.printed i }
+    {
+        self.run.printed_at(i)
+    }
+
+    /// How many steps were made.
+    pub fn steps(&self) -> u64
+        ensures { result ≡ self.now.steps }
+    {
+        self.steps
+    }
+
+    /// One step of the run: one source instruction of the task, with what the definition's step does, prints and how it ends.
+    /// No instruction that is run here reads input. The error is that memory ran out; each later step returns it too. An
+    /// instruction that only reads and writes registers takes no memory.
     #[inline(always)]
     pub fn step(&mut self) -> Result<Stepped, OutOfMemory>
         requires { self.old.steps < MOST_STEPS }
-        ensures step { (setting : MachineSetting) (given : Input) (turns : ℕ → ℕ) → HasCode setting self.old.code
-            → self.old.lost ≡ false
-            → IsStep (world_step (machine_step setting given) [] turns (world_of self.old)) result self.new }
+        ensures step { (setting : MachineSetting) (turns : ℕ → ℕ) → HasCode setting self.old.code → self.old.lost ≡ false
+            → IsStep (world_step (step_in setting) [] turns (world_of self.old)) result self.new }
+        ensures plain { (setting : MachineSetting) (turns : ℕ → ℕ) (mi : Mi) (w : MachineWorld) (printed : List ℕ) → HasCode setting self.old.code
+            → self.old.lost ≡ false → instruction_at self.old.code self.old.run.seen.frame ≡ Some mi → IsPlainOp mi.op
+            → world_step (step_in setting) [] turns (world_of self.old) ≡ Next w printed → IsOk result }
         ensures lost { self.old.lost ≡ true → IsErr result }
-        ensures count { self.new.steps ≤ self.old.steps + 1 }
+        ensures count { self.old.lost ≡ false → self.new.steps ≡ self.old.steps + 1 }
+        ensures kept { IfOk result (λ found. self.new.lost ≡ self.old.lost) }
         ensures code { self.new.code ≡ self.old.code }
     {
         if self.lost {

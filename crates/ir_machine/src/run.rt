@@ -1,4 +1,4 @@
-ghost use Rattle.std.specs.Prelude.{◌≡◌, ℕ, ◌+◌, ◌-◌, ◌^◌, ◌<◌, ◌≤◌, length, [], ◌∷◌, OnOk, IfOk, true, false, unwrap_or};
+ghost use Rattle.std.specs.Prelude.{◌≡◌, ℕ, ◌+◌, ◌-◌, ◌^◌, ◌<◌, ◌≤◌, length, slice_get, [], ◌∷◌, OnOk, IfOk, true, false, unwrap_or};
 
 use crate::progress::{Ending, Progress};
 use dbg_sites::Chains;
@@ -170,6 +170,13 @@ impl Run {
         ensures { result ≡ length self.now.printed }
     {
         self.printed.len() as u64
+    }
+
+    /// Byte number i of those that the last step printed that printed any.
+    pub fn printed_at(&self, i: u64) -> Option<u8>
+        ensures { result ≡ slice_get self.now.printed i }
+    {
+        self.printed.get(i as usize).copied()
     }
 
     /// How the run ended.
