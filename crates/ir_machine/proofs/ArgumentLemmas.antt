@@ -1,5 +1,5 @@
 -- Arguments by their places.
-use Rattle.std.proofs.Common.{◌≡◌, ℕ, zero, suc, List, [], ◌∷◌, Option, Some, None, refl, ap, ◌∙◌}
+use Rattle.std.proofs.Common.{◌≡◌, ℕ, zero, suc, List, [], ◌∷◌, refl}
 use Rattle.std.specs.Prelude.{slice_get, unwrap_or}
 use Rattle.mi_code.specs.declared.operands.MiOperand.{MiOperand}
 use Rattle.mi_code.specs.declared.operands.MiOperand.TheVariants.{Num}

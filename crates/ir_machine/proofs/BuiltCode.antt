@@ -1,11 +1,11 @@
 -- Code that the machine runs has no entries.
-use Rattle.std.proofs.Common.{◌≡◌, ℕ, false, List, [], ◌∷◌, refl, ap, subst, Option, Some, None, arith}
+use Rattle.std.proofs.Common.{◌≡◌, ℕ, false, List, [], ◌∷◌, refl, subst, Option, Some, None, arith}
 use Rattle.std.specs.Prelude.{All, slice_get}
 use Rattle.std.proofs.lemmas.Option.{slice_get_within, get_or_from_slice_get}
 use Rattle.mi_code.specs.declared.code_functions.CodeFunction.{CodeFunction}
 use Rattle.mi_code.specs.declared.code_functions.Mi.{Mi}
 use Rattle.ir_machine.specs.Built.{IsBuilt, IsBuiltCode}
-use Rattle.ir_machine.specs.CallSteps.{begins_with_entry, code_at, code_by}
+use Rattle.ir_machine.specs.CallSteps.{begins_with_entry, code_at}
 
 built-begins : (insts : List Mi) → All IsBuilt insts → begins_with_entry insts ≡ false
 built-begins [] h = refl

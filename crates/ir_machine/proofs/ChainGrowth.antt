@@ -1,14 +1,12 @@
 -- A step adds one chain at most.
-use Rattle.std.proofs.Common.{◌≡◌, ◌≢◌, ℕ, zero, suc, ◌+◌, ◌≤◌, Bool, true, false, List, [], ◌∷◌, length, refl, ap, sym, subst, Option, Some, None, Result, Ok, Err, arith}
-use Rattle.std.specs.Prelude.{nat_le, slice_get}
+use Rattle.std.proofs.Common.{◌≡◌, ◌≢◌, ℕ, zero, suc, ◌+◌, ◌≤◌, Bool, true, false, List, [], ◌∷◌, length, refl, subst, Option, Some, None, Result, Ok, Err, arith}
+use Rattle.std.specs.Prelude.{nat_le}
 use Rattle.std.proofs.lemmas.List.{length_push}
-use Rattle.hw_base.specs.Bits.{is_set}
 use Rattle.hw_base.specs.declared.endings.Input.{Input}
 use Rattle.hw_base.specs.declared.endings.Trap.{Trap}
 use Rattle.hw_base.specs.declared.endings.Trap.TheVariants.{Abort, TooDeep, Unreachable}
 use Rattle.hw_base.specs.declared.pointers.Site.{Site}
 use Rattle.hw_tags.specs.TaskRuns.{Goes, Stays, Starts, Finishes, Ends, Stuck}
-use Rattle.ir_arith.specs.Binary.{binary_result}
 use Rattle.ir_core.specs.declared.lib_functions.Lib.{Lib}
 use Rattle.ir_core.specs.declared.lib_functions.Lib.TheVariants as lib
 use Rattle.dbg_sites.specs.ChainTable.{ChainEntry, pushed, numbered, entry_from}
@@ -24,13 +22,12 @@ use Rattle.ir_machine.specs.declared.progress.Progress.TheVariants.{Ran, Printed
 use Rattle.ir_machine.specs.ArithmeticSteps.{binary_step, icmp_step, cast_step, bits_step, overflow_step, select_step, freeze_step, extract_step, gives_or_traps}
 use Rattle.ir_machine.specs.BranchSteps.{br_step, br_if_step, switch_step, unreachable_step}
 use Rattle.ir_machine.specs.Built.{IsBuiltOp, IsBuiltFunction, IsBuiltCode, HasCode}
-use Rattle.ir_machine.specs.CallSteps.{code_at, begins_with_entry, call_step, entered_call, entry_if, on_entry, frame_left, last_left, ret_step}
+use Rattle.ir_machine.specs.CallSteps.{code_at, begins_with_entry, call_step, frame_left, last_left, ret_step}
 use Rattle.ir_machine.specs.InstructionStep.{operation_step, marked_step}
 use Rattle.ir_machine.specs.LibraryCalls.{library_step}
-use Rattle.ir_machine.specs.Operands.{integer_in}
 use Rattle.ir_machine.specs.RunStates.{RunState, IsOutcome}
 use Rattle.ir_machine.specs.State.{MachineSetting, MachineSeen, MachineOutcome, MachineShared}
-use Rattle.ir_machine.specs.StepEnds.{traps, chain_known}
+use Rattle.ir_machine.specs.StepEnds.{traps}
 use Rattle.ir_machine.specs.TextFunctions.{putchar_step, exit_step, abort_step}
 use Rattle.ir_machine.proofs.BuiltCode.{built-no_entry}
 

@@ -2,7 +2,7 @@
 use Rattle.std.proofs.Common.{◌≡◌, ◌≢◌, ℕ, ◌+◌, ◌%◌, ◌⊎◌, inl, inr, false, true, List, [], ◌∷◌, length, refl, ap, sym, ◌∙◌, subst, Result, Ok, Err, arith}
 use Rattle.hw_base.specs.declared.out_of_memory.OutOfMemory.{OutOfMemory}
 use Rattle.hw_tags.specs.Turn.{unfinished_from}
-use Rattle.hw_tags.specs.TaskRuns.{Goes, Stays, Starts, Finishes, Ends, Stuck, Next, Last, NoStep, world_step, lifted, counted}
+use Rattle.hw_tags.specs.TaskRuns.{Goes, Stays, Starts, Finishes, Ends, Stuck, Next, world_step, lifted}
 use Rattle.ir_machine.specs.declared.progress.Progress.{Progress}
 use Rattle.ir_machine.specs.declared.progress.Progress.TheVariants.{Ran, Printed, Returned, Ended, NoMemory}
 use Rattle.ir_machine.specs.declared.stepped.Stepped.{Stepped}
@@ -20,7 +20,7 @@ unfolding world_step unfinished_from
 one-task step turns m seen task finished same =
     let only : turns 0 % 1 ≡ 0 = omega arith in
     let whole : seen ≡ record { shared = m.run.seen.shared; task = 0; frame = m.run.seen.frame; callers = m.run.seen.callers; finished = false ∷ []; step = m.steps + 1 } =
-        same ∙ (rw (task, finished) refl) in
+    same ∙ (rw (task, finished) refl) in
     rw (only, whole) refl
 
 -- what a step's progress is returned as

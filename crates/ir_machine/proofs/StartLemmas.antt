@@ -1,5 +1,5 @@
 -- The start of a run of a module without globals.
-use Rattle.std.proofs.Common.{◌≡◌, ℕ, ◌<◌, false, List, [], ◌∷◌, length, get_or, refl, ap, sym, ◌∙◌, Option, Some, None, Ok}
+use Rattle.std.proofs.Common.{◌≡◌, ℕ, ◌<◌, List, [], length, get_or, refl, Some}
 use Rattle.std.specs.Prelude.{slice_get}
 use Rattle.std.proofs.lemmas.Option.{slice_get-get_or}
 use Rattle.hw_base.specs.AddressMap.{AddressMap, program_map}
@@ -14,9 +14,9 @@ use Rattle.ir_tasks.specs.CallStacks.{fresh_frame}
 use Rattle.ir_machine.specs.Built.{IsBuiltCode}
 use Rattle.ir_machine.specs.CallSteps.{code_at, no_code, with_arguments}
 use Rattle.ir_machine.specs.MachineStates.{MachineState, world_of, IsSettingOf}
-use Rattle.ir_machine.specs.RunStates.{RunState, first_state}
-use Rattle.ir_machine.specs.Start.{machine_start, main_started}
-use Rattle.ir_machine.specs.State.{MachineSetting, MachineWorldStep}
+use Rattle.ir_machine.specs.RunStates.{first_state}
+use Rattle.ir_machine.specs.Start.{machine_start}
+use Rattle.ir_machine.specs.State.{MachineSetting}
 use Rattle.ir_machine.proofs.BuiltCode.{built-no_entry}
 
 -- memory without globals doesn't depend on types nor words

@@ -1,13 +1,13 @@
 -- A step is that of the instruction where the frame is.
-use Rattle.std.proofs.Common.{◌≡◌, ℕ, zero, suc, List, [], ◌∷◌, length, refl, ap, sym, ◌∙◌, Option, Some, None, arith}
-use Rattle.std.specs.Prelude.{slice_get, ◌<◌}
+use Rattle.std.proofs.Common.{◌≡◌, ℕ, zero, suc, List, length, refl, Some, None, arith}
+use Rattle.std.specs.Prelude.{slice_get}
 use Rattle.std.proofs.lemmas.Option.{slice_get_within}
 use Rattle.hw_base.specs.declared.endings.Input.{Input}
 use Rattle.hw_tags.specs.TaskRuns.{Stuck}
 use Rattle.mi_code.specs.declared.code_functions.Mi.{Mi}
 use Rattle.mi_code.specs.declared.code_functions.CodeFunction.{CodeFunction}
-use Rattle.ir_machine.specs.CallSteps.{code_at, instruction_at}
-use Rattle.ir_machine.specs.InstructionStep.{machine_step, steps_within, instruction_step, marked_step}
+use Rattle.ir_machine.specs.CallSteps.{code_at}
+use Rattle.ir_machine.specs.InstructionStep.{machine_step, steps_within, marked_step}
 use Rattle.ir_machine.specs.State.{MachineSetting, MachineSeen, MachineOutcome}
 
 -- a step goes on by some continuation from the instruction at its place
@@ -20,6 +20,7 @@ machine_step-at setting given s code mi same found =
   where
     here : slice_get (code_at setting.code s.frame.func).insts s.frame.place ≡ Some mi
     here = rw same found
+
     by : (fuel : ℕ) → length (code_at setting.code s.frame.func).insts ≡ fuel
         → (next : MachineSeen → MachineOutcome) × (machine_step setting given s ≡ marked_step setting given next s mi.mark mi.op)
     by zero none = let within = slice_get_within (code_at setting.code s.frame.func).insts s.frame.place mi here in absurd (omega arith)
@@ -35,6 +36,7 @@ machine_step-nowhere setting given s code same found =
   where
     here : slice_get (code_at setting.code s.frame.func).insts s.frame.place ≡ None
     here = rw same found
+
     by : (fuel : ℕ) → length (code_at setting.code s.frame.func).insts ≡ fuel → machine_step setting given s ≡ Stuck
     by zero count = rw count refl
     by (suc fuel) count = rw (count, here) refl

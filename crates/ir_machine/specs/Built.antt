@@ -1,6 +1,6 @@
 -- The instructions that the machine runs today: those that take no memory of the program, with the widths that they can have; and
 -- what the code of a run is. This project's choice.
-use Rattle.std.specs.Prelude.{◌≡◌, ℕ, ◌<◌, ◌^◌, false, List, length, All}
+use Rattle.std.specs.Prelude.{◌≡◌, ◌<◌, ◌^◌, false, List, length, All}
 use Rattle.hw_base.specs.ByteSwap.{HasPairs}
 use Rattle.hw_base.specs.declared.numbers.TheConstants.{MOST_FRAMES}
 use Rattle.ir_arith.specs.Conversion.{IsConversion}

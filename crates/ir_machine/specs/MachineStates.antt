@@ -1,5 +1,5 @@
 -- What the machine has between two steps, the world that it shows, and what a step returns. This project's choice.
-use Rattle.std.specs.Prelude.{◌≡◌, ℕ, ◌+◌, ◌<◌, ◌≤◌, false, List, [], ◌∷◌, length, Result, Ok, Err, Option, Some, None, Bool, true}
+use Rattle.std.specs.Prelude.{◌≡◌, ℕ, ◌≤◌, false, List, [], ◌∷◌, length, Result, Ok, Err, Bool, true}
 use Rattle.std.specs.Int.{w32, cast_signed}
 use Rattle.hw_base.specs.declared.out_of_memory.OutOfMemory.{OutOfMemory}
 use Rattle.hw_tags.specs.TaskRuns.{Next, Last, NoStep}

@@ -3,7 +3,7 @@
 use Rattle.std.specs.Prelude.{◌≡◌, ℕ, List, [], ◌∷◌, false}
 use Rattle.hw_base.specs.AddressMap.{program_map}
 use Rattle.hw_tags.specs.InputState.{no_input_taken}
-use Rattle.hw_tags.specs.TaskRuns.{Goes, Stays, Starts, Finishes, Ends, Stuck}
+use Rattle.hw_tags.specs.TaskRuns.{Goes, Ends}
 use Rattle.stack_tags.specs.Frames as stacks
 use Rattle.tag_alloc.specs.HeapBlocks as blocks
 use Rattle.global_tags.specs.GlobalBytes.{loaded}

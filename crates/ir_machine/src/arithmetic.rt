@@ -33,7 +33,15 @@ pub fn argument_at(args: &MiOperandList, k: u64) -> MiOperand
 impl Run {
     /// A binary operator ("Binary Operations"); a division that has no result traps.
     #[tactic(auto, unfolding(crate::specs::ArithmeticSteps::binary_step))]
-    pub fn binary(&mut self, site: Site, op: BinOp, width: u32, to: u32, a: &MiOperand, b: &MiOperand) -> Progress
+    pub fn binary(
+        &mut self,
+        site: Site,
+        op: BinOp,
+        width: u32,
+        to: u32,
+        a: &MiOperand,
+        b: &MiOperand,
+    ) -> Progress
         requires from_1 { 1 ≤ width }
         requires to_128 { width ≤ 128 }
         requires place { self.old.seen.frame.place + 1 < 2 ^ 64 }
@@ -50,7 +58,14 @@ impl Run {
 
     /// A comparison of integers or of pointers as numbers ("'icmp' Instruction").
     #[tactic(auto, unfolding(crate::specs::ArithmeticSteps::icmp_step))]
-    pub fn icmp(&mut self, pred: Pred, width: Width, to: u32, a: &MiOperand, b: &MiOperand) -> Progress
+    pub fn icmp(
+        &mut self,
+        pred: Pred,
+        width: Width,
+        to: u32,
+        a: &MiOperand,
+        b: &MiOperand,
+    ) -> Progress
         requires from_1 { 1 ≤ bits_in width }
         requires to_128 { bits_in width ≤ 128 }
         requires place { self.old.seen.frame.place + 1 < 2 ^ 64 }
@@ -95,7 +110,14 @@ impl Run {
 
     /// An intrinsic with overflow: its number, and after it the bit ("Arithmetic with Overflow Intrinsics").
     #[tactic(auto, unfolding(crate::specs::ArithmeticSteps::overflow_step))]
-    pub fn overflow(&mut self, op: OverOp, width: u32, to: u32, a: &MiOperand, b: &MiOperand) -> Progress
+    pub fn overflow(
+        &mut self,
+        op: OverOp,
+        width: u32,
+        to: u32,
+        a: &MiOperand,
+        b: &MiOperand,
+    ) -> Progress
         requires from_1 { 1 ≤ width }
         requires to_128 { width ≤ 128 }
         requires place { self.old.seen.frame.place + 1 < 2 ^ 64 }
@@ -136,7 +158,11 @@ impl Run {
         requires { self.old.seen.frame.place + 1 < 2 ^ 64 }
         ensures { IsPlainOutcome (extract_step self.old.seen to of.now part) result self.new }
     {
-        let n = if part == 1 { self.second(of) } else { self.number(of) };
+        let n = if part == 1 {
+            self.second(of)
+        } else {
+            self.number(of)
+        };
         self.give(to, n)
     }
 }

@@ -81,7 +81,13 @@ impl Run {
 
     /// One of two edges, by a condition's lowest bit ("'br' Instruction").
     #[tactic(auto, unfolding(crate::specs::BranchSteps::br_step, crate::specs::BranchSteps::br_if_step))]
-    pub fn branch(&mut self, cond: &MiOperand, yes: &Edge, no: &Edge, numbers: &mut Vec<u128>) -> Progress
+    pub fn branch(
+        &mut self,
+        cond: &MiOperand,
+        yes: &Edge,
+        no: &Edge,
+        numbers: &mut Vec<u128>,
+    ) -> Progress
         ensures { IsOutcome (br_if_step self.old.seen cond.now yes.now no.now) result self.new }
     {
         if self.is_set(cond) {
@@ -93,7 +99,14 @@ impl Run {
 
     /// The edge of the first case with the operand's number, or the other one ("'switch' Instruction").
     #[tactic(auto, unfolding(crate::specs::BranchSteps::br_step, crate::specs::BranchSteps::switch_step))]
-    pub fn switch(&mut self, width: u32, on: &MiOperand, other: &Edge, cases: &MiCaseList, numbers: &mut Vec<u128>) -> Progress
+    pub fn switch(
+        &mut self,
+        width: u32,
+        on: &MiOperand,
+        other: &Edge,
+        cases: &MiCaseList,
+        numbers: &mut Vec<u128>,
+    ) -> Progress
         requires from_1 { 1 ≤ width }
         requires to_128 { width ≤ 128 }
         ensures { IsOutcome (switch_step self.old.seen width on.now other.now cases.now) result self.new }

@@ -78,7 +78,14 @@ impl Run {
     }
 
     /// A defined function is called ("'call' Instruction"): the frame is new, and its chain has the call's site in front.
-    fn enter(&mut self, code: &Code, site: Site, func: u32, args: &MiOperandList, numbers: &mut Vec<u128>) -> Progress
+    fn enter(
+        &mut self,
+        code: &Code,
+        site: Site,
+        func: u32,
+        args: &MiOperandList,
+        numbers: &mut Vec<u128>,
+    ) -> Progress
         requires no_entry { begins_with_entry (code_at code.now func).insts ≡ false }
         requires few { length args.now < 2 ^ 32 }
         requires place { self.old.seen.frame.place + 1 < 2 ^ 64 }
@@ -100,7 +107,14 @@ impl Run {
 
     /// A defined function is called, or the run traps if the task has as many frames as it can ("'call' Instruction").
     #[tactic(auto, unfolding(crate::specs::CallSteps::call_step))]
-    pub fn call(&mut self, code: &Code, site: Site, func: u32, args: &MiOperandList, numbers: &mut Vec<u128>) -> Progress
+    pub fn call(
+        &mut self,
+        code: &Code,
+        site: Site,
+        func: u32,
+        args: &MiOperandList,
+        numbers: &mut Vec<u128>,
+    ) -> Progress
         requires no_entry { begins_with_entry (code_at code.now func).insts ≡ false }
         requires few { length args.now < 2 ^ 32 }
         requires place { self.old.seen.frame.place + 1 < 2 ^ 64 }

@@ -26,6 +26,6 @@ pub use further_examples::{
     blocks_are_checked, blocks_are_zero_and_grow, constants_and_strings, input_and_numbers,
     tasks_wait_and_end,
 };
+pub use laws::{a_run_is_never_stuck, frames_are_at_their_places, runs_go_on, tables_fit_together};
 pub use machine::Machine;
 pub use stepped::Stepped;
-pub use laws::{a_run_is_never_stuck, frames_are_at_their_places, runs_go_on, tables_fit_together};

@@ -57,7 +57,12 @@ impl Machine {
 
     /// The machine before the first step: `main` is entered. The module has no globals, the code is that of its functions and
     /// has only instructions that the machine runs, and `main` is one of them. The only error is that memory ran out.
-    pub fn new(alloc: Global, module: &Module, code: Code, options: &Options) -> Result<Machine, OutOfMemory>
+    pub fn new(
+        alloc: Global,
+        module: &Module,
+        code: Code,
+        options: &Options,
+    ) -> Result<Machine, OutOfMemory>
         requires built { IsBuiltCode code }
         requires no_globals { module.now.globals ≡ [] }
         requires main { module.now.main < length code }

@@ -15,7 +15,13 @@ use mi_code::{Code, MiOp, MiOperandList};
 
 /// The call of a library function.
 #[tactic(auto, using(crate::proofs::Outcomes::from_plain))]
-fn library(run: &mut Run, site: Site, function: Lib, to: Option<u32>, args: &MiOperandList) -> Progress
+fn library(
+    run: &mut Run,
+    site: Site,
+    function: Lib,
+    to: Option<u32>,
+    args: &MiOperandList,
+) -> Progress
     requires built { IsBuiltFunction function }
     requires place { run.old.seen.frame.place + 1 < 2 ^ 64 }
     requires chains { length run.old.seen.shared.chains < 2 ^ 32 - 1 }
@@ -33,7 +39,13 @@ fn library(run: &mut Run, site: Site, function: Lib, to: Option<u32>, args: &MiO
 
 /// The step of an instruction at a site.
 #[tactic(auto, using(crate::proofs::Outcomes::from_plain))]
-pub fn operation(code: &Code, run: &mut Run, numbers: &mut Vec<u128>, site: Site, op: &MiOp) -> Progress
+pub fn operation(
+    code: &Code,
+    run: &mut Run,
+    numbers: &mut Vec<u128>,
+    site: Site,
+    op: &MiOp,
+) -> Progress
     requires built { IsBuiltOp op.now }
     requires all { IsBuiltCode code.now }
     requires task { run.old.seen.task ≡ 0 }
@@ -45,18 +57,52 @@ pub fn operation(code: &Code, run: &mut Run, numbers: &mut Vec<u128>, site: Site
         → IsPlainOutcome (operation_step setting given site next run.old.seen op.now) result run.new }
 {
     match op {
-        MiOp::Binary { op, width, to, a, b } => run.binary(site, *op, *width, *to, a, b),
-        MiOp::Icmp { pred, width, to, a, b } => run.icmp(*pred, *width, *to, a, b),
-        MiOp::Cast { op, from, width, to, a } => run.cast(*op, *from, *width, *to, a),
-        MiOp::Bits { op, width, to, args } => run.bits(*op, *width, *to, args),
-        MiOp::Overflow { op, width, to, a, b } => run.overflow(*op, *width, *to, a, b),
+        MiOp::Binary {
+            op,
+            width,
+            to,
+            a,
+            b,
+        } => run.binary(site, *op, *width, *to, a, b),
+        MiOp::Icmp {
+            pred,
+            width,
+            to,
+            a,
+            b,
+        } => run.icmp(*pred, *width, *to, a, b),
+        MiOp::Cast {
+            op,
+            from,
+            width,
+            to,
+            a,
+        } => run.cast(*op, *from, *width, *to, a),
+        MiOp::Bits {
+            op,
+            width,
+            to,
+            args,
+        } => run.bits(*op, *width, *to, args),
+        MiOp::Overflow {
+            op,
+            width,
+            to,
+            a,
+            b,
+        } => run.overflow(*op, *width, *to, a, b),
         MiOp::Select { to, cond, a, b } => run.select(*to, cond, a, b),
         MiOp::Freeze { to, a } => run.freeze(*to, a),
         MiOp::Part { to, of, part } => run.extract(*to, of, *part),
         MiOp::Nop => run.go_on(),
         MiOp::Jump { edge } => run.jump(edge, numbers),
         MiOp::Branch { cond, yes, no } => run.branch(cond, yes, no, numbers),
-        MiOp::Switch { width, on, other, cases } => run.switch(*width, on, other, cases, numbers),
+        MiOp::Switch {
+            width,
+            on,
+            other,
+            cases,
+        } => run.switch(*width, on, other, cases, numbers),
         MiOp::Call { func, args, .. } => run.call(code, site, *func, args, numbers),
         MiOp::CallLib { lib, to, args, .. } => library(run, site, *lib, *to, args),
         MiOp::Ret { value } => run.ret(code, value),

@@ -45,7 +45,13 @@ impl Run {
 
     /// A run that begins with a function, whose frame has so many registers, for a heap of so many bytes and rings of so many
     /// records. No step was made.
-    pub fn new(alloc: Global, func: u32, registers: u32, heap: u64, ring: u32) -> Result<Run, OutOfMemory>
+    pub fn new(
+        alloc: Global,
+        func: u32,
+        registers: u32,
+        heap: u64,
+        ring: u32,
+    ) -> Result<Run, OutOfMemory>
         ensures { IfOk result (λ r. r ≡ first_state heap ring (fresh_frame func registers 0 0)) }
     {
         let calls = CallStack::new(alloc, func, registers, 0, 0)?;
@@ -212,10 +218,11 @@ impl Run {
         requires place { self.old.seen.frame.place + 1 < 2 ^ 64 }
         requires chains { length self.old.seen.shared.chains < 2 ^ 32 - 1 }
         ensures { OnOk result (self.new ≡ record self.old {
-            seen = record (chain_known self.old.seen site) {
-                frame = fresh_frame func registers 0 (chain_at self.old.seen site);
-                callers = self.old.seen.frame ∷ self.old.seen.callers;
-            } }) }
+          seen = record (chain_known self.old.seen site) {
+            frame = fresh_frame func registers 0 (chain_at self.old.seen site);
+            callers = self.old.seen.frame ∷ self.old.seen.callers;
+          };
+        }) }
     {
         let chain = self.chains.push(self.calls.chain(), site)?;
         self.calls.call(func, registers, 0, chain)
@@ -252,7 +259,11 @@ impl Run {
     {
         match self.chains.push(self.calls.chain(), site) {
             Ok(chain) => {
-                self.ending = Ending::Trap { trap, task: 0, chain };
+                self.ending = Ending::Trap {
+                    trap,
+                    task: 0,
+                    chain,
+                };
                 Progress::Ended
             }
             Err(_) => Progress::NoMemory,

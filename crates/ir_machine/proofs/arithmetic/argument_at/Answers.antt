@@ -1,4 +1,4 @@
-use Rattle.std.proofs.Common.{◌≡◌, Option, ap, sym, ◌∙◌}
+use Rattle.std.proofs.Common.{Option, ap, sym, ◌∙◌}
 use Rattle.std.specs.Prelude.{unwrap_or}
 use Rattle.mi_code.specs.declared.operands.MiOperand.{MiOperand}
 use Rattle.mi_code.specs.declared.operands.MiOperand.TheVariants.{Num}

@@ -1,4 +1,4 @@
-use Rattle.std.proofs.Common.{◌≡◌, sym, ◌∙◌, subst, Some, None}
+use Rattle.std.proofs.Common.{◌≡◌, sym, subst, Some, None}
 use Rattle.std.specs.Prelude.{slice_get}
 use Rattle.mi_code.specs.declared.code_functions.Mi.{Mi}
 use Rattle.ir_machine.specs.Built.{IsPlainOp}
@@ -18,7 +18,7 @@ pub returns-in-Some-clause-step : goal.returns-in-Some-clause-step
 returns-in-Some-clause-step c setting given has goes =
     let frame = c.args.run.now.seen.frame in
     let there : slice_get (code_at c.args.code.now frame.func).insts frame.place ≡ Some c.in-Some.mi.now =
-        rw (← c.func.ensures, ← c.place.ensures) (sym c.in-Some.ensures.found) in
+    rw (← c.func.ensures, ← c.place.ensures) (sym c.in-Some.ensures.found) in
     let at = machine_step-at setting given c.args.run.now.seen c.args.code.now c.in-Some.mi.now has.code there in
     subst (λ (outcome : MachineOutcome). IsOutcome outcome c.marked.result c.marked.new.run) (sym at.1) (c.marked.ensures.step setting given at.0 has)
 
@@ -26,7 +26,7 @@ pub returns-in-Some-clause-plain : goal.returns-in-Some-clause-plain
 returns-in-Some-clause-plain c setting given has mi found plain =
     let frame = c.args.run.now.seen.frame in
     let there : slice_get (code_at c.args.code.now frame.func).insts frame.place ≡ Some c.in-Some.mi.now =
-        rw (← c.func.ensures, ← c.place.ensures) (sym c.in-Some.ensures.found) in
+    rw (← c.func.ensures, ← c.place.ensures) (sym c.in-Some.ensures.found) in
     let same : mi ≡ c.in-Some.mi.now = cc in
     let at = machine_step-at setting given c.args.run.now.seen c.args.code.now c.in-Some.mi.now has.code there in
     subst (λ (outcome : MachineOutcome). IsPlainOutcome outcome c.marked.result c.marked.new.run) (sym at.1)
@@ -36,7 +36,7 @@ pub returns-in-None-clause-step : goal.returns-in-None-clause-step
 returns-in-None-clause-step c setting given has goes =
     let frame = c.args.run.now.seen.frame in
     let there : slice_get (code_at c.args.code.now frame.func).insts frame.place ≡ None =
-        rw (← c.func.ensures, ← c.place.ensures) (sym c.in-None.ensures.found) in
+    rw (← c.func.ensures, ← c.place.ensures) (sym c.in-None.ensures.found) in
     absurd (goes (machine_step-nowhere setting given c.args.run.now.seen c.args.code.now has.code there))
 
 pub returns-in-Some-clause-few : goal.returns-in-Some-clause-few
@@ -45,7 +45,7 @@ returns-in-Some-clause-few c some =
     let seen = c.args.run.now.seen in
     let frame = seen.frame in
     let there : slice_get (code_at c.args.code.now frame.func).insts frame.place ≡ Some c.in-Some.mi.now =
-        rw (← c.func.ensures, ← c.place.ensures) (sym c.in-Some.ensures.found) in
+    rw (← c.func.ensures, ← c.place.ensures) (sym c.in-Some.ensures.found) in
     let built = built-at c.args.code.now frame.func frame.place c.in-Some.mi.now c.requires.all there in
     let setting = setting_with c.args.code.now in
     let next : MachineSeen → MachineOutcome = λ s. Stuck in

@@ -1,4 +1,4 @@
-use Rattle.std.proofs.Common.{◌≡◌, ℕ, refl, ap, ◌∙◌, false}
+use Rattle.std.proofs.Common.{refl, ap, ◌∙◌, false}
 use Rattle.ir_tasks.specs.CallStacks.{fresh_frame}
 use Rattle.ir_machine.specs.MachineStates.{MachineState}
 use Rattle.ir_machine.specs.RunStates.{first_state}

@@ -1,7 +1,6 @@
 use Rattle.std.proofs.Common.{◌≡◌, ◌+◌, [], sym, refl, ap, ◌∙◌, subst, Ok, Some}
 use Rattle.hw_tags.specs.TaskRuns.{world_step}
 use Rattle.ir_machine.specs.declared.progress.Progress.TheVariants.{Ran, Printed, Returned, Ended}
-use Rattle.ir_machine.specs.declared.stepped.Stepped.{Stepped}
 use Rattle.ir_machine.specs.declared.stepped.Stepped.TheVariants as stepped
 use Rattle.ir_machine.specs.Built.{HasCode}
 use Rattle.hw_tags.specs.InputState.{next_input}
@@ -66,7 +65,7 @@ returns-in-NoMemory-clause-plain c setting turns mi w printed has here there pla
     let seen = ap (λ (v : RunState). v.seen) c.begin_step.ensures.begun in
     let same_frame = ap (λ (s : MachineSeen). s.frame) seen in
     let at : instruction_at before.code begun.seen.frame ≡ Some mi =
-        ap (λ (f : Frame). instruction_at before.code f) same_frame ∙ (ap (λ (m : MachineState). instruction_at m.code m.run.seen.frame) c.self.view_is ∙ there) in
+    ap (λ (f : Frame). instruction_at before.code f) same_frame ∙ (ap (λ (m : MachineState). instruction_at m.code m.run.seen.frame) c.self.view_is ∙ there) in
     let step = one-task (step_in setting) turns before begun.seen c.begin_step.ensures.task c.begin_step.ensures.finished seen in
     let went = ap (λ (m : MachineState). world_step (step_in setting) [] turns (world_of m)) c.self.view_is in
     let ends = c.in-NoMemory.ensures.plain setting (next_input setting.input begun.seen.shared.input) code mi at plain in
