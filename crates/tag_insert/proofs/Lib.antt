@@ -1,0 +1,4 @@
+pub mod ArgumentPlaces
+pub mod CodePlaces
+pub mod FieldPlaces
+pub mod InnerWalks

@@ -1,10 +1,9 @@
 -- Registers whose machine registers are numbers of 32 bits: a function has fewer than 2^30 registers.
-use Rattle.std.specs.Prelude.{ℕ, ◌<◌, ◌^◌, List, All, Option, IfSome}
+use Rattle.std.specs.Prelude.{◌<◌, ◌^◌, All, IfSome}
 use Rattle.ir_core.specs.declared.operands.Operand.{Operand}
 use Rattle.ir_core.specs.declared.operands.Operand.TheVariants.{Reg}
 use Rattle.ir_core.specs.declared.operands.Placed.{Placed}
 use Rattle.ir_core.specs.declared.operands.PhiEntry.{PhiEntry}
-use Rattle.ir_core.specs.declared.operands.Case.{Case}
 use Rattle.ir_core.specs.declared.operations.Op.{Op}
 use Rattle.ir_core.specs.declared.operations.Op.TheVariants as op
 use Rattle.ir_core.specs.declared.ir_module.Inst.{Inst}

@@ -9,7 +9,7 @@ use crate::addition::Addition;
 use crate::operands::{argument, operand_of};
 use crate::types::{access_size, type_of};
 use hw_base::{Access, MUTEX_SIZE, SizeList, TASK_NUMBER_SIZE};
-use ir_core::{Lib, Module, Op, Placed};
+use ir_core::{Lib, Module, Op, Placed, PlacedList};
 use mi_code::{MiOp, MiOperand};
 
 /// Whether an access of so many bytes that is aligned to them lies in one granule.
@@ -26,7 +26,11 @@ fn check_of(n: u32, align: u32, at: MiOperand, access: Access) -> MiOp
     if is_one_size(n) && n <= align {
         MiOp::One { at, n, access }
     } else {
-        MiOp::Sized { at, n: MiOperand::Num(n as u128), access }
+        MiOp::Sized {
+            at,
+            n: MiOperand::Num(n as u128),
+            access,
+        }
     }
 }
 
@@ -49,37 +53,52 @@ pub fn lib_of(m: &Module, declare: u32) -> Lib
 }
 
 /// The check of a read or write of as many bytes as an argument says.
-fn counted(args: &[Placed], access: Access, pointer: usize, count: usize) -> MiOp
+fn counted(args: &PlacedList, access: Access, pointer: u64, count: u64) -> MiOp
     requires { All IsSmall args.now }
     ensures { result ≡ access_check args.now (Counted access pointer count) }
 {
-    MiOp::Sized { at: argument(args, pointer), n: argument(args, count), access }
+    MiOp::Sized {
+        at: argument(args, pointer),
+        n: argument(args, count),
+        access,
+    }
 }
 
 /// The check of a write of a fixed number of bytes.
-fn fixed(args: &[Placed], size: u32) -> MiOp
+fn fixed(args: &PlacedList, size: u32) -> MiOp
     requires { All IsSmall args.now }
     ensures { result ≡ access_check args.now (Fixed Access.Write 0 size) }
 {
-    MiOp::One { at: argument(args, 0), n: size, access: Access::Write }
+    MiOp::One {
+        at: argument(args, 0),
+        n: size,
+        access: Access::Write,
+    }
 }
 
 /// The checks of a copy: of its source, and of its destination.
-fn copy_checks(args: &[Placed]) -> Addition
+fn copy_checks(args: &PlacedList) -> Addition
     requires { All IsSmall args.now }
     ensures { added_ops result ≡ library_checks Lib.Memcpy args.now }
 {
-    Addition::Two(counted(args, Access::Read, 1, 2), counted(args, Access::Write, 0, 2))
+    Addition::Two(
+        counted(args, Access::Read, 1, 2),
+        counted(args, Access::Write, 0, 2),
+    )
 }
 
 /// The checks of the accesses of a library function, in order.
-fn library_checks(lib: Lib, args: &[Placed]) -> Addition
+fn library_checks(lib: Lib, args: &PlacedList) -> Addition
     requires { All IsSmall args.now }
     ensures { added_ops result ≡ library_checks lib args.now }
 {
     match lib {
-        Lib::Free => Addition::One(MiOp::FreeCheck { at: argument(args, 0) }),
-        Lib::Realloc => Addition::One(MiOp::FreeCheck { at: argument(args, 0) }),
+        Lib::Free => Addition::One(MiOp::FreeCheck {
+            at: argument(args, 0),
+        }),
+        Lib::Realloc => Addition::One(MiOp::FreeCheck {
+            at: argument(args, 0),
+        }),
         Lib::Memcpy => copy_checks(args),
         Lib::Memmove => copy_checks(args),
         Lib::LlvmMemcpy => copy_checks(args),
@@ -87,10 +106,17 @@ fn library_checks(lib: Lib, args: &[Placed]) -> Addition
         Lib::Memset => Addition::One(counted(args, Access::Write, 0, 2)),
         Lib::LlvmMemset => Addition::One(counted(args, Access::Write, 0, 2)),
         Lib::Memcmp => {
-            Addition::Two(counted(args, Access::Read, 0, 2), counted(args, Access::Read, 1, 2))
+            Addition::Two(
+                counted(args, Access::Read, 0, 2),
+                counted(args, Access::Read, 1, 2),
+            )
         }
-        Lib::Strlen => Addition::One(MiOp::Str { at: argument(args, 0) }),
-        Lib::Puts => Addition::One(MiOp::Str { at: argument(args, 0) }),
+        Lib::Strlen => Addition::One(MiOp::Str {
+            at: argument(args, 0),
+        }),
+        Lib::Puts => Addition::One(MiOp::Str {
+            at: argument(args, 0),
+        }),
         Lib::PthreadCreate => Addition::One(fixed(args, TASK_NUMBER_SIZE)),
         Lib::MutexInit => Addition::One(fixed(args, MUTEX_SIZE)),
         Lib::MutexLock => Addition::One(fixed(args, MUTEX_SIZE)),
@@ -118,9 +144,14 @@ pub fn added_code(m: &Module, sizes: &SizeList, op: &Op) -> Addition
     match op {
         Op::Load { ty, at, align } => type_check(m, *ty, *align, at, Access::Read),
         Op::Store { value, at, align } => type_check(m, value.ty, *align, at, Access::Write),
-        Op::Rmw { at, value, align, .. } => type_check(m, value.ty, *align, at, Access::Write),
+        Op::Rmw {
+            at,
+            value,
+            align,
+            ..
+        } => type_check(m, value.ty, *align, at, Access::Write),
         Op::CmpXchg { at, new, align, .. } => type_check(m, new.ty, *align, at, Access::Write),
-        Op::CallLib { declare, args, .. } => library_checks(lib_of(m, *declare), args.as_slice()),
+        Op::CallLib { declare, args, .. } => library_checks(lib_of(m, *declare), args),
         Op::Ret { .. } => leave_code(sizes),
         _ => Addition::Nothing,
     }

@@ -3,6 +3,12 @@
 #![tactic(auto)]
 
 mod addition;
+mod addresses;
 mod checks;
+mod code;
+mod edges;
+mod fields;
 mod operands;
+mod places;
+mod source;
 mod types;

@@ -4,7 +4,7 @@ ghost use Rattle.mi_code.specs.SourceCode.{returned};
 ghost use Rattle.tag_insert.specs.SmallRegisters.{IsSmall};
 
 use hw_base::OutOfMemory;
-use ir_core::{Function, Operand, Placed};
+use ir_core::{Function, Operand, Placed, PlacedList};
 use mi_code::{MiOperand, MiOperandList};
 use std::alloc::Global;
 
@@ -27,21 +27,19 @@ pub fn operands_of(alloc: Global, args: &[Placed]) -> Result<MiOperandList, OutO
     ensures { IfOk result (λ operands. operands ≡ operands_of args.now) }
 {
     let mut operands = MiOperandList::new(alloc);
-    let mut rest = args;
-    while let [arg, after @ ..] = rest {
+    for arg in args {
         operands.push(operand_of(arg))?;
-        rest = after;
     }
     Ok(operands)
 }
 
 /// The argument at a place, or the number 0.
-pub fn argument(args: &[Placed], k: usize) -> MiOperand
+pub fn argument(args: &PlacedList, k: u64) -> MiOperand
     requires { All IsSmall args.now }
     ensures { result ≡ argument args.now k }
 {
     match args.get(k) {
-        Some(arg) => operand_of(arg),
+        Some(arg) => operand_of(&arg),
         None => MiOperand::Num(0),
     }
 }

@@ -1,4 +1,5 @@
 ghost use Rattle.std.specs.Prelude.{◌≡◌};
+ghost use Rattle.ir_core.specs.Layout.{layout_at, layout_size};
 ghost use Rattle.ir_core.specs.NumberTypes.{type_of, bits_of, access_size, alloc_size, constant_number};
 ghost use Rattle.mi_code.specs.Widths.{width_of_type, width_of, bits_at};
 
@@ -50,14 +51,31 @@ pub fn width_of(m: &Module, ty: u32) -> Width
     }
 }
 
+/// The layout of a type that the module keeps.
+pub fn layout_at(m: &Module, ty: u32) -> TypeLayout
+    ensures { result ≡ layout_at m.now.layouts ty }
+{
+    match m.layouts.get(ty as u64) {
+        Some(layout) => layout,
+        None => TypeLayout::Loop,
+    }
+}
+
+/// The bytes that a layout says, 0 if it says none.
+pub fn layout_size(layout: TypeLayout) -> u64
+    ensures { result ≡ layout_size layout }
+{
+    match layout {
+        TypeLayout::Known { size, .. } => size,
+        _ => 0,
+    }
+}
+
 /// The bytes from one item of a type to the next, by the layouts that the module keeps.
 pub fn alloc_size(m: &Module, ty: u32) -> u64
     ensures { result ≡ alloc_size m.now ty }
 {
-    match m.layouts.get(ty as u64) {
-        Some(TypeLayout::Known { size, .. }) => size,
-        _ => 0,
-    }
+    layout_size(layout_at(m, ty))
 }
 
 /// The number that a constant operand is.
