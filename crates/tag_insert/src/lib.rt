@@ -8,7 +8,10 @@ mod checks;
 mod code;
 mod edges;
 mod fields;
+mod instrumenting;
 mod operands;
 mod places;
 mod source;
 mod types;
+
+pub use instrumenting::instrument;
