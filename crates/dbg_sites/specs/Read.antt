@@ -1,5 +1,6 @@
 -- What the reader of metadata holds, as the definitions of nodes see it.
-use Rattle.std.specs.Prelude.{ℕ, List, map, ◌≡◌, Bool, Option, Some, None}
+use Rattle.std.specs.Prelude.{ℕ, List, map, ◌≡◌, Bool, Option, Some, None, Vec}
+use Rattle.std.specs.declared.alloc.Global.{Global}
 use Rattle.std.specs.List.{position_from}
 use Rattle.std.specs.Ordering.{nat_cmp}
 use Rattle.std.specs.Cmp.Lexicographic.{slice_cmp}
@@ -8,7 +9,7 @@ use Rattle.std.specs.BTreeMap.{BTreeMap, get_by}
 use denote.Ref.{Bor}
 use Rattle.ir_core.specs.declared.token.Token.{Token}
 use Rattle.ir_grammar.specs.DebugFields.{Lexeme, lexemes, before, is_comma, inside, Field, fields}
-use Rattle.ir_grammar.specs.DebugNodes.{Definition}
+use Rattle.ir_grammar.specs.DebugNodes.{Definition, definitions}
 use Rattle.dbg_sites.specs.declared.definitions.KeptNode.{KeptNode}
 
 -- the fields of a node, from the tokens after its bracket on
@@ -43,3 +44,11 @@ place_in places q = get_by (λ k. slice_cmp nat_cmp q k.now) places
 -- the map gives for each number the place of the first node with it
 abbrev pub IsIndex : BTreeMap (Bor (List ℕ)) ℕ → List KeptNode → Type 0
 IsIndex places nodes = (q : List ℕ) → place_in places q ≡ position_from (is_numbered q) 0 nodes
+
+-- the numbers of the nodes that a text keeps, without the zeros in front, in order of the text
+abbrev pub node_numbers : List ℕ → List Token → List (List ℕ)
+node_numbers source tokens = map (λ d. d.number) (definitions 0 (lexemes source tokens))
+
+-- numbers as the program keeps them
+abbrev pub numbers_in : List (Vec ℕ Global) → List (List ℕ)
+numbers_in numbers = map (λ number. number.items) numbers

@@ -20,7 +20,7 @@ pub use examples::chains_by_example;
 pub use laws::{
     chains_end_within_the_nodes, equal_numbers_are_equal_chains, pushing_puts_a_site_in_front,
 };
-pub use nodes::read_meta;
+pub use nodes::{node_numbers, read_meta};
 pub use scopes::check_scopes;
 
 #[cfg(test)]

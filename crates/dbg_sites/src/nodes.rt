@@ -1,6 +1,6 @@
-ghost use Rattle.std.specs.Prelude.{◌≡◌, ◌<◌, ◌^◌, length, map, All, IfOk};
+ghost use Rattle.std.specs.Prelude.{◌≡◌, ◌<◌, ◌≤◌, ◌^◌, length, map, All, IfOk};
 ghost use Rattle.ir_grammar.specs.DebugNodes.{line_field, text_field, location_node, subprogram_node, file_node, other_node, node_of, kept_nodes, IsResolved};
-ghost use Rattle.dbg_sites.specs.Read.{fields_in, definition_of, definitions_of, IsIndex};
+ghost use Rattle.dbg_sites.specs.Read.{fields_in, definition_of, definitions_of, node_numbers, numbers_in, IsIndex};
 
 use crate::definitions::{KeptNode, kept_nodes};
 use crate::fields::field_token;
@@ -175,4 +175,31 @@ pub fn read_meta(alloc: Global, tokens: &Tokens) -> Result<Meta, OutOfMemory>
     let nodes = kept_nodes(alloc, tokens)?;
     let places = places_of(alloc, nodes.as_slice())?;
     nodes_of(alloc, tokens, nodes.as_slice(), &places)
+}
+
+/// The numbers of nodes, in order.
+fn numbers_of(
+    alloc: Global,
+    tokens: &Tokens,
+    nodes: &[KeptNode],
+) -> Result<Vec<Vec<u8>>, OutOfMemory>
+    ensures { IfOk result (λ numbers. numbers_in numbers.items ≡ map (λ d. d.number) (definitions_of tokens.now.source nodes.now)) }
+{
+    let mut numbers = Vec::new(alloc);
+    let mut rest = nodes;
+    while let [node, after @ ..] = rest {
+        numbers.push(Vec::from_slice(alloc, node.number)?)?;
+        rest = after;
+    }
+    Ok(numbers)
+}
+
+/// The numbers that are written of the metadata nodes that a text keeps, in order of the text, as digits without the zeros in
+/// front: that of node k of `read_meta` is at k. The only error is that memory ran out.
+pub fn node_numbers(alloc: Global, tokens: &Tokens) -> Result<Vec<Vec<u8>>, OutOfMemory>
+    ensures numbers { IfOk result (λ numbers. numbers_in numbers.items ≡ node_numbers tokens.now.source tokens.now.tokens) }
+    ensures few { IfOk result (λ numbers. length numbers.items ≤ length tokens.now.tokens) }
+{
+    let nodes = kept_nodes(alloc, tokens)?;
+    numbers_of(alloc, tokens, nodes.as_slice())
 }

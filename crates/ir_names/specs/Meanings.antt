@@ -1,6 +1,5 @@
--- What the names of types and of global variables stand for, where no name has a fault (LLVM Language Reference,
--- "Structure Type", "Global Variables").
-use Rattle.std.specs.Prelude.{◌≡◌, ℕ, List, [], ◌∷◌, map, ◌+◌, slice_index_or, Option, None, Some, Result, Ok, Err}
+-- What the names of types and of global variables stand for (LLVM Language Reference, "Structure Type", "Global Variables").
+use Rattle.std.specs.Prelude.{ℕ, List, [], ◌∷◌, map, ◌+◌, slice_index_or, Option, None, Some}
 use Rattle.ir_grammar.specs.declared.spelled.SpelledType.{SpelledType}
 use Rattle.ir_grammar.specs.declared.spelled.SpelledType.TheVariants.{Named}
 use Rattle.ir_grammar.specs.declared.spelled.SpelledConstant.{SpelledConstant}
@@ -8,12 +7,7 @@ use Rattle.ir_grammar.specs.declared.spelled.SpelledConstant.TheVariants.{Global
 use Rattle.ir_grammar.specs.declared.spelled.SpelledItem.{SpelledItem}
 use Rattle.ir_grammar.specs.declared.spelled.SpelledItem.TheVariants.{«Type» as TypeItem, Global}
 use Rattle.ir_grammar.specs.Spelled.{Store}
-use Rattle.ir_names.specs.declared.references.References.{References}
-use Rattle.ir_names.specs.declared.fault.NamesError.{NamesError}
-use Rattle.ir_names.specs.declared.fault.NamesError.TheVariants.{Fault, OutOfMemory}
 use Rattle.ir_names.specs.Keys.{type_key, global_key, item_keys, first_with, meant}
-use Rattle.ir_names.specs.First.{first_fault}
-use Rattle.ir_names.specs.Faults.{name_faults}
 
 -- the type that an item defines, or this one where it defines none
 abbrev pub type_or : ℕ → Option SpelledItem → ℕ
@@ -53,15 +47,3 @@ variable source keys numbers other = None
 -- one a constant: the number of the variable that it names
 abbrev pub variables_of : List ℕ → List SpelledItem → Store → List (Option ℕ)
 variables_of source items store = map (variable source (item_keys source items) (numbered 0 items)) store.constants
-
--- no name has a fault, and these are what the names stand for
-pub record IsResolution (source : List ℕ) (items : List SpelledItem) (store : Store) (found : References) : Type 0 where
-  pub faultless : first_fault (name_faults source items store) ≡ None
-  pub leads : found.leads.items ≡ leads_of source items store
-  pub variables : found.variables.items ≡ variables_of source items store
-
--- the answer: what names stand for, or the first fault of a name, or memory ran out
-abbrev pub Resolves : List ℕ → List SpelledItem → Store → Result References NamesError → Type 0
-Resolves source items store (Ok found) = IsResolution source items store found
-Resolves source items store (Err (Fault fault)) = first_fault (name_faults source items store) ≡ Some fault
-Resolves source items store (Err OutOfMemory) = Unit {0}

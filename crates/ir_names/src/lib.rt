@@ -24,7 +24,7 @@ pub use laws::{
     a_name_means_what_has_it, one_name_has_one_key, the_first_fault_is_before_all_others,
     what_names_stand_for_is_there,
 };
-pub use references::References;
+pub use references::{References, Resolution};
 pub use resolve::resolve_names;
 
 #[cfg(test)]

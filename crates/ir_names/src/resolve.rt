@@ -2,16 +2,16 @@ ghost use Rattle.std.specs.Prelude.{◌≡◌, ◌<◌, ◌^◌, length, map, If
 ghost use Rattle.ir_grammar.specs.Spelled.{store_of};
 ghost use Rattle.ir_names.specs.Keys.{item_keys};
 ghost use Rattle.ir_names.specs.First.{first_fault};
-ghost use Rattle.ir_names.specs.Faults.{faults_by};
-ghost use Rattle.ir_names.specs.Meanings.{leads_from, numbered, variable, Resolves};
+ghost use Rattle.ir_names.specs.Faults.{name_faults, faults_by};
+ghost use Rattle.ir_names.specs.Meanings.{leads_from, leads_of, numbered, variable, variables_of};
 
 use crate::constants::{beside_constants, numbered, variables_of};
 use crate::definitions::beside_definitions;
-use crate::fault::{NameFault, NamesError};
+use crate::fault::NameFault;
 use crate::index::Index;
 use crate::keys::item_keys;
 use crate::parameters::beside_declares;
-use crate::references::References;
+use crate::references::{References, Resolution};
 use crate::types::{beside_types, leads_of};
 use hw_base::OutOfMemory;
 use ir_grammar::{SpelledItem, Spellings};
@@ -68,30 +68,35 @@ fn references(
     })
 }
 
-/// What the names of a text stand for: `source` is the text, `items` are its items in order, below 2^32 of them, and `found`
-/// is what was read of them. Two names are one where they stand for the same bytes, or write the same number: `%01` is `%1`,
-/// and `%"a"` is `%a`. The error is the first fault of a name, or want of memory. A name has a fault:
+/// What the names of a text stand for, and the first fault of a name outside the bodies of its functions: `source` is the text,
+/// `items` are its items in order, below 2^32 of them, and `found` is what was read of them. Two names are one where they stand
+/// for the same bytes, or write the same number: `%01` is `%1`, and `%"a"` is `%a`. The error is want of memory. A name has a
+/// fault:
 ///
-/// - `Twice`, where an earlier item defines it, or an earlier parameter of the same function; a parameter's written number,
-///   where it is below the counter of the parameters before it;
+/// - `Twice`, where an earlier item defines it, or an earlier parameter of the same declared function; a parameter's written
+///   number, where it is below the counter of the parameters before it;
 /// - `Unknown`, at a type's name that no item defines, at a local in a constant, and at a global in a constant that no item
 ///   defines;
 /// - `Unsupported`, at a function in a constant, and at `llvm.global_ctors`.
 ///
-/// The first is the one whose token begins first, and at one place the one with the lower code.
+/// The first is the one whose token begins first, and at one place the one with the lower code. A name that is defined twice
+/// stands for its first definition, and a type's name without a definition for itself.
 pub fn resolve_names(
     alloc: Global,
     source: &[u8],
     items: &[SpelledItem],
     found: &Spellings,
-) -> Result<References, NamesError>
+) -> Result<Resolution, OutOfMemory>
     requires { length items.now < 2 ^ 32 }
-    ensures { Resolves source.now items.now (store_of found.now) result }
+    ensures fault { IfOk result (λ r. r.fault ≡ first_fault (name_faults source.now items.now (store_of found.now))) }
+    ensures leads { IfOk result (λ r. r.references.leads.items ≡ leads_of source.now items.now (store_of found.now)) }
+    ensures variables { IfOk result (λ r. r.references.variables.items ≡ variables_of source.now items.now (store_of found.now)) }
 {
     let keys = item_keys(alloc, source, items)?;
     let index = Index::new(alloc, keys.as_slice())?;
-    match first_fault(alloc, source, &index, items, found)? {
-        Some(fault) => Err(NamesError::Fault(fault)),
-        None => Ok(references(alloc, source, &index, items, found)?),
-    }
+    let fault = first_fault(alloc, source, &index, items, found)?;
+    Ok(Resolution {
+        references: references(alloc, source, &index, items, found)?,
+        fault,
+    })
 }

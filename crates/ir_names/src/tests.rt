@@ -129,12 +129,14 @@ fn shown(alloc: Global, text: &[u8], letters: &[u8]) -> Result<String, Fail> {
         return Err(Fail::from("too many items"));
     }
     match resolve_names(alloc, text, draft.items.as_slice(), &draft.found) {
-        Ok(found) => shown_references(alloc, &found),
-        Err(NamesError::Fault(fault)) => {
-            let (word, from) = (fault.fault.word(), fault.at.from);
-            Ok(format!(in alloc; "{word}@{from}")?)
-        }
-        Err(NamesError::OutOfMemory) => Err(Fail::from("memory")),
+        Ok(found) => match found.fault {
+            None => shown_references(alloc, &found.references),
+            Some(fault) => {
+                let (word, from) = (fault.fault.word(), fault.at.from);
+                Ok(format!(in alloc; "{word}@{from}")?)
+            }
+        },
+        Err(_) => Err(Fail::from("memory")),
     }
 }
 

@@ -284,8 +284,7 @@ some_block x = omega arith
 -- the blocks of a body are added, and there is one
 pub blocks_so : (P : Token → Type 0) (bs : List SpelledBlock) (st end : Store) → Runs (IsFine P) (list (base block)) blocks_rule bs st end → BlocksAdded P bs st end × (1 ≤ length bs)
 unfolding blocks_rule later_blocks
-blocks_so P bs st end (y, m, (n, first, rest), e, e') =
-    (
-      subst (λ v. BlocksAdded P v st end) (sym e) (subst (λ v. BlocksAdded P (y.0 ∷ y.1) st v) (sym e') (one_more P y.0 y.1 st n m (block_so P true y.0 st n first) (all_added P y.1 n m rest))),
-      subst (λ v. 1 ≤ length v) (sym e) (some_block y),
-    )
+blocks_so P bs st end (y, m, (n, first, rest), e, e') = (
+  subst (λ v. BlocksAdded P v st end) (sym e) (subst (λ v. BlocksAdded P (y.0 ∷ y.1) st v) (sym e') (one_more P y.0 y.1 st n m (block_so P true y.0 st n first) (all_added P y.1 n m rest))),
+  subst (λ v. 1 ≤ length v) (sym e) (some_block y),
+)

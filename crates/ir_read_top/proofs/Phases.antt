@@ -20,11 +20,7 @@ use Rattle.ir_lex.proofs.Cuts.{one_tokenisation}
 use Rattle.ir_read_items.specs.ItemReading.{spelled, ReadsItems}
 use Rattle.ir_read_items.proofs.Spelled.{text_is_module}
 use Rattle.ir_read_items.specs.ItemLaws.{IsModule}
-use Rattle.ir_names.specs.declared.fault.NamesError.{NamesError}
-use Rattle.ir_names.specs.declared.fault.NamesError.TheVariants as names
-use Rattle.ir_names.specs.Meanings.{Resolves}
-use Rattle.ir_read_top.specs.Module.{first_defined}
-use Rattle.ir_read_top.specs.Texts.{sentence, refusal_at, names_error, flaw_error, IsFaultOf, bad_token, flawed, misnamed, ReadsText, IsGathered, IsRead, IsSentence}
+use Rattle.ir_read_top.specs.Texts.{sentence, refusal_at, flaw_error, IsFaultOf, bad_token, flawed, ReadsText, IsGathered, IsRead, IsSentence}
 
 length-terminals : (source : List ℕ) (ts : List Token) → length (terminals_of source ts) ≡ length ts
 length-terminals source [] = refl
@@ -36,8 +32,8 @@ length-text source ts place =
     let e = length-terminals source ts in
     omega (arith, length-append (terminals_of source ts) (end_of_text place ∷ []))
 
--- what was read of a text is less than 2^32 things
-pub small_enough : (size n : ℕ) → size ≤ 8 * n → n ≤ MOST_TEXT + 1 → size < 2 ^ 32
+-- what was read of a text is less than 2^28 things
+pub small_enough : (size n : ℕ) → size ≤ 8 * n → n ≤ MOST_TEXT + 1 → size < 2 ^ 28
 small_enough size n h le = omega arith
 
 refusal_is : (r : Refusal) → r.fault ≡ BadToken → refusal_at BadToken (record { line = r.line; column = r.column }) ≡ r
@@ -47,12 +43,6 @@ refusal_is r p i = record { fault = sym p i; line = r.line; column = r.column }
 pub bad_text : (text : List ℕ) (error : ReadError) → length text ≤ MOST_TEXT → Lexes text (Err error) → ReadsText text (Err error)
 bad_text text OutOfMemory short h = tt
 bad_text text (Refused r) short h = subst (IsFaultOf text) (refusal_is r h.0) (bad_token (record { line = r.line; column = r.column }) short h.1)
-
--- the fault of a name is that of the text
-pub misnamed_text : (text : List ℕ) (tokens : List Token) (store : Store) (error : NamesError) → length text ≤ MOST_TEXT → IsTokenisation text tokens → IsModule nesting_limit (sentence text tokens) store
-    → first_defined store.items ≡ None → Resolves text store.items store (Err error) → ReadsText text (Err (names_error error))
-misnamed_text text tokens store names.OutOfMemory short cut derived plain h = tt
-misnamed_text text tokens store (names.Fault f) short cut derived plain h = misnamed tokens store f short cut derived plain h
 
 -- the flaw of the tokens is that of the text
 pub flawed_text : (text : List ℕ) (tokens : List Token) (failure : Failure) → length text ≤ MOST_TEXT → IsTokenisation text tokens

@@ -1,5 +1,5 @@
 -- Each number in the module of an accepted text names a thing that is there.
-use Rattle.std.proofs.Common.{◌≡◌, ℕ, suc, ◌+◌, ◌<◌, ◌≤◌, List, [], ◌∷◌, length, get_or, take, drop, slice_get, Option, Some, None, IfSome, Result, Ok, Err, All, arith, refl, sym, ◌∙◌, ap, subst, append-nil}
+use Rattle.std.proofs.Common.{◌≡◌, ℕ, suc, ◌+◌, ◌<◌, ◌≤◌, List, [], ◌∷◌, ◌++◌, length, length-append, get_or, take, drop, slice_get, Option, Some, None, IfSome, Result, Ok, Err, All, arith, refl, sym, ◌∙◌, ap, subst, append-nil}
 use Rattle.std.specs.Prelude.{IfOk}
 use Rattle.std.specs.Option.{option_map, unwrap_or}
 use Rattle.std.proofs.lemmas.List.{length-map}
@@ -16,6 +16,7 @@ use Rattle.ir_core.specs.declared.refusals.ReadError.{ReadError}
 use Rattle.ir_core.specs.declared.ir_module.Module.{Module}
 use Rattle.ir_core.specs.Tokenisation.{place_after}
 use Rattle.ir_core.specs.Resolved.{IsResolvedType, IsPartWithin, IsResolvedGlobal, IsResolvedDeclare, IsResolvedNode, IsResolvedOutside}
+use Rattle.ir_core.specs.Scopes.{HasEndingScopes}
 use Rattle.ir_grammar.specs.declared.spelled.SpelledItem.{SpelledItem}
 use Rattle.ir_grammar.specs.declared.spelled.SpelledItem.TheVariants as items
 use Rattle.ir_grammar.specs.declared.spelled.SpelledParameter.{SpelledParameter}
@@ -38,10 +39,12 @@ use Rattle.ir_first_values.specs.Pieces.{IsPieceIn, AreNumbered}
 use Rattle.ir_first_values.proofs.TextBytes.{IsByte}
 use Rattle.ir_first_values.proofs.PartsInside.{size}
 use Rattle.ir_first_values.proofs.PiecesInside.{first_value_inside}
-use Rattle.ir_read_top.specs.Module.{parameter_types, declare_of, declares_of}
+use Rattle.ir_functions.specs.Given.{given_types}
+use Rattle.ir_read_top.specs.Module.{parameter_types, declare_of, declares_of, with_pairs}
+use Rattle.ir_read_top.specs.Functions.{numbers_of}
 use Rattle.ir_read_top.specs.Globals.{tables, global_of, globals_of}
-use Rattle.ir_read_top.specs.Texts.{sentence, numbers_of, IsAccepted, ReadsText}
-use Rattle.ir_read_top.proofs.ResolvedTypes.{AreBelow, stands_below, IsAmong, AreAmong, types_among, fields_below, pairs_among}
+use Rattle.ir_read_top.specs.Texts.{sentence, fields_of, IsAccepted, ReadsText}
+use Rattle.ir_read_top.proofs.ResolvedTypes.{AreBelow, stands_below, IsAmong, AreAmong, types_among, fields_below, pairs_among, all_among}
 
 -- ---- what was read
 
@@ -49,7 +52,7 @@ use Rattle.ir_read_top.proofs.ResolvedTypes.{AreBelow, stands_below, IsAmong, Ar
 accepted_sound : (text : List ℕ) (m : Module) → (a : IsAccepted text m) → IsSoundStore a.store
 accepted_sound text m a =
     let ts = sentence text a.tokens in
-    let whole : spelled_by ts ≡ Ok a.store = subst (λ v. spelled_by v ≡ Ok a.store) (append-nil ts) (module_spelled ts [] a.store a.derived) in
+    let whole : spelled_by ts ≡ Ok a.store = subst (λ v. spelled_by v ≡ Ok a.store) (append-nil ts) (module_spelled ts [] a.store a.read.derived) in
     (spelled_sound ts a.store (text_ranged text a.tokens (place_after text)) whole).sound
 
 -- ---- types
@@ -184,25 +187,34 @@ resolved_module text m bytes a =
     let fields_same : length m.fields ≡ length store.fields = ap length spelled.fields ∙ length-map store.fields (number_at numbers) in
     let plain : AreAmong n (length m.fields) (module_types store.types numbers) =
     types_among store.types numbers (length m.fields) below (subst (λ k. All (IsSoundType n k) store.types) (sym fields_same) s.types) in
-    let among : AreAmong n (length m.fields) m.types =
-    subst (AreAmong n (length m.fields)) (sym spelled.types) (pairs_among n (length m.fields) store.types m.fields (module_types store.types numbers) store.items spelled.libs plain) in
-    let there : AreBelow numbers n (length m.types) = subst (AreBelow numbers n) (sym among.same) below in
+    let fields_are : List ℕ = fields_of text store in
+    let paired : List IrType = with_pairs store.types fields_are (module_types store.types numbers) store.items a.libs in
+    let among : AreAmong n (length m.fields) paired = pairs_among n (length m.fields) store.types fields_are (module_types store.types numbers) store.items a.libs plain in
+    let count : length m.types ≡ length paired + length given_types = ap length spelled.types ∙ length-append paired given_types in
+    let same : length paired ≡ n = among.same in
+    let there : AreBelow numbers n (length m.types) = λ k h. let g : number_at numbers k < n = below k h in omega arith in
+    let all : All (IsAmong (length m.types) (length m.fields)) m.types =
+    subst (λ v. All (IsAmong (length v) (length m.fields)) v) (sym spelled.types) (all_among n (length m.fields) paired among) in
     let variables : length m.globals ≡ length (variables_in store.items) =
     ap length spelled.globals ∙ length-globals (tables text store numbers spelled.classes m) store.items in
     let named : AreNumbered (length m.globals) (variables_of text store.items store) =
     subst (λ k. AreNumbered k (variables_of text store.items store)) (sym variables) (variables_within text (item_keys text store.items) store.items store.constants) in
     record {
-      types = All-weaker (IsAmong (length m.types) (length m.fields)) (IsResolvedType m) (resolved_type m) m.types
-          (subst (λ k. All (IsAmong k (length m.fields)) m.types) (sym among.same) among.each);
-      fields = subst (λ k. All (λ f. f < k) m.fields) (sym among.same)
+      types = All-weaker (IsAmong (length m.types) (length m.fields)) (IsResolvedType m) (resolved_type m) m.types all;
+      fields = All-weaker (λ k. k < n) (λ k. k < length m.types) (λ k h. let g : k < n = h in omega arith) m.fields
           (subst (All (λ f. f < n)) (sym spelled.fields) (fields_below store.fields numbers n below s.fields));
       layouts = spelled.layouts;
       globals = subst (All (IsResolvedGlobal m)) (sym spelled.globals)
           (globals_there text store numbers spelled.classes m store.items (record { bytes = bytes; below = there; named = named }) s.items);
       declares = subst (All (IsResolvedDeclare m)) (sym spelled.declares)
-          (declares_there m (counts_of store) numbers store.parameters store.items spelled.libs there s.parameters s.items);
+          (declares_there m (counts_of store) numbers store.parameters store.items a.libs there s.parameters s.items);
       meta = nodes_there text a.tokens m spelled.meta;
     }
+
+-- the chains of debug locations of an accepted text end
+pub ending_answer : (text : List ℕ) (answer : Result Module ReadError) → ReadsText text answer → IfOk answer HasEndingScopes
+ending_answer text (Ok m) h = h.scopes
+ending_answer text (Err error) h = tt
 
 -- the same of what reading a text answers
 pub resolved_answer : (text : List ℕ) (answer : Result Module ReadError) → All IsByte text → ReadsText text answer → IfOk answer IsResolvedOutside

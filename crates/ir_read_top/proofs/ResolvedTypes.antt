@@ -1,8 +1,8 @@
 -- What the types and fields of a module hold is there, with pairs among them.
-use Rattle.std.proofs.Common.{◌≡◌, ℕ, zero, suc, ◌+◌, ◌<◌, ◌≤◌, Bool, true, false, cond, eqb, List, [], ◌∷◌, length, get_or, take, drop, slice_get, Option, Some, None, IfSome, All, arith, refl, sym, ◌∙◌, subst}
+use Rattle.std.proofs.Common.{◌≡◌, ℕ, zero, suc, ◌+◌, ◌<◌, ◌≤◌, Bool, true, false, cond, eqb, List, [], ◌∷◌, ◌++◌, map, length, length-append, get_or, take, drop, slice_get, Option, Some, None, IfSome, All, arith, refl, sym, ◌∙◌, subst}
 use Rattle.std.specs.List.{range_with_len}
 use Rattle.std.proofs.lemmas.List.{length-set}
-use Rattle.std.proofs.lemmas.List.Elements.{All-head, All-tail, All-get_or, All-map, All-set}
+use Rattle.std.proofs.lemmas.List.Elements.{All-head, All-tail, All-cons, All-append, All-weaker, All-get_or, All-map, All-set}
 use Rattle.std.proofs.lemmas.List.FromFn.{length-range_with_len, get_or-range_with_len, length-map-range_with_len}
 use Rattle.std.proofs.lemmas.Option.{slice_get_within}
 use Rattle.ir_core.specs.declared.types.IrType.{IrType}
@@ -15,6 +15,7 @@ use Rattle.ir_grammar.specs.declared.spelled.SpelledType.TheVariants as spelled
 use Rattle.ir_grammar.specs.declared.spelled.SpelledItem.{SpelledItem}
 use Rattle.ir_grammar.specs.declared.spelled.SpelledItem.TheVariants as items
 use Rattle.ir_grammar.specs.SoundStore.{IsSoundType}
+use Rattle.ir_functions.specs.Given.{given_types}
 use Rattle.ir_type_numbers.specs.Numbering.{number_at, far_leads, is_no_name, led_to, stands_for, module_type, module_types, module_fields}
 use Rattle.ir_read_top.specs.Module.{pair_width, pair_by, pair_of, set_pair, with_pair, with_pairs}
 
@@ -170,3 +171,38 @@ pairs_among n m found fields types [] functions h = h
 pairs_among n m found fields types (item ∷ rest) [] h = h
 pairs_among n m found fields types (item ∷ rest) (lib ∷ functions) h =
     pairs_among n m found fields (with_pair found fields types item lib) rest functions (pair_by_lib n m found fields types item lib h)
+
+-- ---- types whose spelling is no part of a text
+
+range_inside : (k d : ℕ) → k < length (range_with_len 1 128) → IsWidth (get_or (range_with_len 1 128) k d)
+range_inside k d h =
+    let l : length (range_with_len 1 128) ≡ 128 = length-range_with_len 1 128 in
+    let e : get_or (range_with_len 1 128) k d ≡ 1 + k = get_or-range_with_len 1 128 k d (omega arith) in
+    record { some = omega arith; most = omega arith }
+
+pub given_among : (n m : ℕ) → All (IsAmong n m) given_types
+given_among n m =
+    All-cons (IsAmong n m) Ptr (Void ∷ (map Int (range_with_len 1 128) ++ map Pair (range_with_len 1 128))) tt
+    (All-cons (IsAmong n m) Void (map Int (range_with_len 1 128) ++ map Pair (range_with_len 1 128)) tt
+    (All-append (IsAmong n m) (map Int (range_with_len 1 128)) (map Pair (range_with_len 1 128))
+    (All-map (IsAmong n m) Int (range_with_len 1 128) range_inside)
+    (All-map (IsAmong n m) Pair (range_with_len 1 128) range_inside)))
+
+among_more : (n n' m : ℕ) → n ≤ n' → (ty : IrType) → IsAmong n m ty → IsAmong n' m ty
+among_more n n' m le Void h = tt
+among_more n n' m le (Int width) h = h
+among_more n n' m le Ptr h = tt
+among_more n n' m le (Array count item) h = let g : item < n = h in omega arith
+among_more n n' m le (Struct first count packed) h = h
+among_more n n' m le Opaque h = tt
+among_more n n' m le (Pair width) h = h
+
+-- all types of a module, with those whose spelling is no part of a text
+pub all_among : (n m : ℕ) (types : List IrType) → AreAmong n m types → All (IsAmong (length (types ++ given_types)) m) (types ++ given_types)
+all_among n m types h =
+    let whole : ℕ = length (types ++ given_types) in
+    let l : whole ≡ length types + length given_types = length-append types given_types in
+    let same : length types ≡ n = h.same in
+    All-append (IsAmong whole m) types given_types
+    (All-weaker (IsAmong n m) (IsAmong whole m) (among_more n whole m (omega arith)) types h.each)
+    (given_among whole m)

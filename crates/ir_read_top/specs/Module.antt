@@ -1,11 +1,10 @@
--- The module that a text without function bodies spells, part by part.
+-- The module that a text spells, part by part, without its functions.
 use Rattle.std.specs.Prelude.{ℕ, ◌==◌, ◌≡◌, List, [], ◌∷◌, ◌++◌, map, take, drop, length, slice_get, slice_set, replicate, Bool, true, false, if◌then◌else◌, Option, Some, None}
 use Rattle.ir_core.specs.declared.types.IrType.{IrType}
 use Rattle.ir_core.specs.declared.types.IrType.TheVariants.{Int, Pair}
 use Rattle.ir_core.specs.declared.lib_functions.Lib.{Lib}
 use Rattle.ir_core.specs.declared.lib_functions.Lib.TheVariants.{Overflow}
 use Rattle.ir_core.specs.declared.ir_module.Declare.{Declare}
-use Rattle.ir_core.specs.declared.token.Token.{Token}
 use Rattle.ir_core.specs.Tokens.{bytes_of}
 use Rattle.ir_core.specs.Externals.{IsExternal}
 use Rattle.ir_text.specs.Names.{global_name}
@@ -15,23 +14,6 @@ use Rattle.ir_grammar.specs.declared.spelled.SpelledParameter.{SpelledParameter}
 use Rattle.ir_grammar.specs.declared.spelled.SpelledItem.{SpelledItem}
 use Rattle.ir_grammar.specs.declared.spelled.SpelledItem.TheVariants as items
 use Rattle.ir_type_numbers.specs.Numbering.{number_at}
-
--- ---- definitions of functions, whose bodies no module has yet
-
--- the name of the function that an item defines
-abbrev pub defined_name : SpelledItem → Option Token
-defined_name (items.Define name result first count entry blocks) = Some name
-defined_name other = None
-
--- the first, if it is there, or else the second
-abbrev pub earlier : Option Token → Option Token → Option Token
-earlier None later = later
-earlier (Some token) later = Some token
-
--- the name of the first function that items define
-abbrev pub first_defined : List SpelledItem → Option Token
-first_defined [] = None
-first_defined (item ∷ rest) = earlier (defined_name item) (first_defined rest)
 
 -- ---- the functions that declares name
 

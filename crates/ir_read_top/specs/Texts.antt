@@ -1,7 +1,6 @@
--- What a text without function bodies is read into, or the fault for which it is refused. A text goes through phases: its
--- length, its tokens, the grammar, whether it defines a function, names. The first phase with a fault decides. This project's
--- choice.
-use Rattle.std.specs.Prelude.{ℕ, ◌-◌, ◌^◌, ◌<◌, ◌≤◌, ◌≡◌, List, [], length, slice_get, All, Option, Some, None, Result, Ok, Err}
+-- What a text is read into, or the fault for which it is refused. A text goes through phases: its length, its tokens, the
+-- grammar, names with the search for `main`, chains of scopes. The first phase with a fault decides. This project's choice.
+use Rattle.std.specs.Prelude.{ℕ, ◌-◌, ◌^◌, ◌<◌, ◌≤◌, ◌≡◌, List, [], ◌++◌, map, length, slice_get, All, Option, Some, None, Result, Ok, Err}
 use Rattle.std.specs.Option.{option_map_or}
 use Rattle.hw_base.specs.declared.numbers.TheConstants.{MOST_TEXT}
 use Rattle.ir_core.specs.declared.token.Token.{Token}
@@ -10,12 +9,14 @@ use Rattle.ir_core.specs.declared.refusals.Refusal.{Refusal}
 use Rattle.ir_core.specs.declared.refusals.ReadError.{ReadError}
 use Rattle.ir_core.specs.declared.refusals.ReadError.TheVariants.{Refused, OutOfMemory}
 use Rattle.ir_core.specs.declared.faults.Fault.{Fault}
-use Rattle.ir_core.specs.declared.faults.Fault.TheVariants.{BadToken, Unsupported, TooLarge}
+use Rattle.ir_core.specs.declared.faults.Fault.TheVariants.{BadToken, NoMain, MetaCycle, TooLarge}
 use Rattle.ir_core.specs.declared.faults.Limit.TheVariants.{Text}
+use Rattle.ir_core.specs.declared.types.IrType.{IrType}
 use Rattle.ir_core.specs.declared.lib_functions.Lib.{Lib}
 use Rattle.ir_core.specs.declared.ir_module.Module.{Module}
 use Rattle.ir_core.specs.Tokenisation.{IsTokenisation, IsBadTokenAt, place_after}
 use Rattle.ir_core.specs.Layout.{layouts_of}
+use Rattle.ir_core.specs.Scopes.{scopes_fault}
 use Rattle.ir_grammar.specs.declared.terminal.Terminal.{Terminal}
 use Rattle.ir_grammar.specs.declared.terminal.Failure.{Failure}
 use Rattle.ir_grammar.specs.declared.terminal.Failure.TheVariants as failures
@@ -29,13 +30,12 @@ use Rattle.ir_grammar.specs.DebugNodes.{kept_nodes}
 use Rattle.ir_read_items.specs.ItemReading.{spelled}
 use Rattle.ir_read_items.specs.ItemLaws.{IsModule}
 use Rattle.ir_names.specs.declared.fault.NameFault.{NameFault}
-use Rattle.ir_names.specs.declared.fault.NamesError.{NamesError}
-use Rattle.ir_names.specs.declared.fault.NamesError.TheVariants as names
 use Rattle.ir_names.specs.First.{first_fault}
-use Rattle.ir_names.specs.Faults.{name_faults}
-use Rattle.ir_names.specs.Meanings.{leads_of}
-use Rattle.ir_type_numbers.specs.Numbering.{stands_for, module_types, module_fields}
-use Rattle.ir_read_top.specs.Module.{first_defined, AreLibsOf, named_marks, with_pairs, declares_of}
+use Rattle.ir_type_numbers.specs.Numbering.{module_types, module_fields}
+use Rattle.ir_functions.specs.Given.{given_types}
+use Rattle.ir_functions.specs.Functions.{function_of}
+use Rattle.ir_read_top.specs.Module.{AreLibsOf, named_marks, with_pairs, declares_of}
+use Rattle.ir_read_top.specs.Functions.{numbers_of, functions_in, surroundings, all_faults, main_of}
 use Rattle.ir_read_top.specs.Globals.{AreClasses, tables, globals_of}
 
 -- a text's tokens as the grammar sees them, with its end after them
@@ -50,47 +50,54 @@ refusal_at fault place = record { fault = fault; line = place.line; column = pla
 abbrev pub place_with : Place → List Terminal → ℕ → Place
 place_with end tokens left = option_map_or (λ (t : Terminal). t.token.place) (slice_get tokens (length tokens - left)) end
 
--- the error for the first fault of a name
-abbrev pub names_error : NamesError → ReadError
-names_error (names.Fault f) = Refused (refusal_at f.fault f.at.place)
-names_error names.OutOfMemory = OutOfMemory
-
 -- the error for a flaw of these tokens
 abbrev pub flaw_error : Place → List Terminal → Failure → ReadError
 flaw_error end tokens (failures.Flawed flaw) = Refused (refusal_at flaw.fault (place_with end tokens flaw.left))
 flaw_error end tokens failures.OutOfMemory = OutOfMemory
 
--- what each spelled type stands for
-abbrev pub numbers_of : List ℕ → Store → List ℕ
-numbers_of text store = stands_for store.types (leads_of text store.items store)
+-- the types and the fields of the module that a text spells, by the functions of the outside that it declares
+abbrev pub fields_of : List ℕ → Store → List ℕ
+fields_of text store = module_fields store.fields (numbers_of text store)
 
--- the module that a text spells, by what was read of it
-pub record IsModuleOf (text : List ℕ) (tokens : List Token) (store : Store) (m : Module) : Type 0 where
-  -- which functions of the outside the items declare
-  pub libs : List (Option Lib)
-  pub libs_right : AreLibsOf text store.items libs
-  pub fields : m.fields ≡ module_fields store.fields (numbers_of text store)
-  pub types : m.types ≡ with_pairs store.types m.fields (module_types store.types (numbers_of text store)) store.items libs
+abbrev pub types_of : List ℕ → Store → List (Option Lib) → List IrType
+types_of text store libs = with_pairs store.types (fields_of text store) (module_types store.types (numbers_of text store)) store.items libs ++ given_types
+
+-- a module before it has functions
+abbrev pub without_functions : Module → Module
+without_functions m = record m { functions = []; main = 0 }
+
+-- the module that a text spells, but for which function is its `main`, by what was read of it
+pub record IsModuleOf (text : List ℕ) (tokens : List Token) (store : Store) (libs : List (Option Lib)) (m : Module) : Type 0 where
+  pub fields : m.fields ≡ fields_of text store
+  pub types : m.types ≡ types_of text store libs
   pub layouts : m.layouts ≡ layouts_of m.types m.fields
   -- which types are one
   pub classes : List ℕ
   pub classes_right : AreClasses m.types m.fields (named_marks store.items store.types) classes
   pub globals : m.globals ≡ globals_of (tables text store (numbers_of text store) classes m) store.items
   pub declares : m.declares ≡ declares_of (numbers_of text store) store.parameters store.items libs
-  pub functions : m.functions ≡ []
-  pub main : m.main ≡ 0
+  pub functions : m.functions
+      ≡ map (function_of (surroundings text tokens store libs) (tables text store (numbers_of text store) classes m) (without_functions m)) (functions_in store)
   pub meta : m.meta ≡ kept_nodes text tokens
+
+-- the text isn't too long, these are its tokens, and this is what they spell, with the functions of the outside that the items
+-- declare
+pub record IsSpelled (text : List ℕ) (tokens : List Token) (store : Store) (libs : List (Option Lib)) : Type 0 where
+  pub short : length text ≤ MOST_TEXT
+  pub cut : IsTokenisation text tokens
+  pub derived : IsModule nesting_limit (sentence text tokens) store
+  pub libs_right : AreLibsOf text store.items libs
 
 -- the text is accepted, and this is its module
 pub record IsAccepted (text : List ℕ) (m : Module) : Type 0 where
-  pub short : length text ≤ MOST_TEXT
   pub tokens : List Token
-  pub cut : IsTokenisation text tokens
   pub store : Store
-  pub derived : IsModule nesting_limit (sentence text tokens) store
-  pub plain : first_defined store.items ≡ None
-  pub named : first_fault (name_faults text store.items store) ≡ None
-  pub spelled : IsModuleOf text tokens store m
+  pub libs : List (Option Lib)
+  pub read : IsSpelled text tokens store libs
+  pub named : first_fault (all_faults text tokens store libs) ≡ None
+  pub spelled : IsModuleOf text tokens store libs m
+  pub main : main_of text store ≡ Some m.main
+  pub scopes : scopes_fault m ≡ None
 
 -- the text is refused so
 pub data IsFaultOf (text : List ℕ) : Refusal → Type 0 where
@@ -102,15 +109,19 @@ pub data IsFaultOf (text : List ℕ) : Refusal → Type 0 where
   flawed : (tokens : List Token) (fault : Fault) (left : ℕ) → length text ≤ MOST_TEXT → IsTokenisation text tokens
       → spelled (sentence text tokens) ≡ Err (record { fault = fault; left = left })
       → IsFaultOf text (refusal_at fault (place_with (place_after text) (sentence text tokens) left))
-  -- the first function that the text defines has this name
-  defines : (tokens : List Token) (store : Store) (name : Token) → length text ≤ MOST_TEXT → IsTokenisation text tokens
-      → IsModule nesting_limit (sentence text tokens) store → first_defined store.items ≡ Some name
-      → IsFaultOf text (refusal_at Unsupported name.place)
-  -- the first fault of a name is here
-  misnamed : (tokens : List Token) (store : Store) (f : NameFault) → length text ≤ MOST_TEXT → IsTokenisation text tokens
-      → IsModule nesting_limit (sentence text tokens) store → first_defined store.items ≡ None
-      → first_fault (name_faults text store.items store) ≡ Some f
+  -- the first fault of a name, outside bodies or in one, is here
+  misnamed : (tokens : List Token) (store : Store) (libs : List (Option Lib)) (f : NameFault) → IsSpelled text tokens store libs
+      → first_fault (all_faults text tokens store libs) ≡ Some f
       → IsFaultOf text (refusal_at f.fault f.at.place)
+  -- no function is its `main`
+  without_main : (tokens : List Token) (store : Store) (libs : List (Option Lib)) → IsSpelled text tokens store libs
+      → first_fault (all_faults text tokens store libs) ≡ None → main_of text store ≡ None
+      → IsFaultOf text (refusal_at NoMain (place_after text))
+  -- from the debug location here a chain of scopes or of inlined calls never ends
+  cyclic : (tokens : List Token) (store : Store) (libs : List (Option Lib)) (m : Module) (place : Place) → IsSpelled text tokens store libs
+      → first_fault (all_faults text tokens store libs) ≡ None → IsModuleOf text tokens store libs m → main_of text store ≡ Some m.main
+      → scopes_fault m ≡ Some place
+      → IsFaultOf text (refusal_at MetaCycle place)
 
 -- what reading a text returns: its module, or its fault, unless memory ran out
 abbrev pub ReadsText : List ℕ → Result Module ReadError → Type 0
@@ -122,7 +133,7 @@ ReadsText text (Err OutOfMemory) = Unit {0}
 pub record IsGathered (text : List ℕ) (tokens : List Token) (store : Store) : Type 0 where
   pub derived : IsModule nesting_limit (sentence text tokens) store
   pub sound : IsSoundStore store
-  pub small : size_of store < 2 ^ 32
+  pub small : size_of store < 2 ^ 28
 
 -- this is what the text spells
 pub record IsRead (text : List ℕ) (store : Store) : Type 0 where

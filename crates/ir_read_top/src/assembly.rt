@@ -1,4 +1,4 @@
-ghost use Rattle.std.specs.Prelude.{◌≡◌, ◌<◌, ◌^◌, [], length, IfOk};
+ghost use Rattle.std.specs.Prelude.{◌≡◌, ◌<◌, ◌^◌, ◌++◌, [], length, IfOk};
 ghost use Rattle.ir_core.specs.Layout.{layouts_of};
 ghost use Rattle.ir_grammar.specs.Spelled.{store_of};
 ghost use Rattle.ir_grammar.specs.SoundStore.{IsSoundStore, size_of};
@@ -6,12 +6,13 @@ ghost use Rattle.ir_grammar.specs.DebugNodes.{kept_nodes};
 ghost use Rattle.ir_core.specs.Resolved.{HasLayouts};
 ghost use Rattle.ir_names.specs.Meanings.{leads_of, variables_of};
 ghost use Rattle.ir_type_numbers.specs.Numbering.{stands_for, module_types, module_fields};
+ghost use Rattle.ir_functions.specs.Given.{given_types};
 ghost use Rattle.ir_read_top.specs.Module.{named_marks, with_pairs, declares_of};
 ghost use Rattle.ir_read_top.specs.Globals.{AreClasses, tables, globals_of};
-ghost use Rattle.ir_read_top.specs.Assembly.{HasVariables, IsAssembled};
-ghost use Rattle.ir_read_top.specs.Texts.{IsModuleOf};
+ghost use Rattle.ir_read_top.specs.Assembly.{HasVariables, IsAssembled, IsOutline};
 
-use crate::declared::{declares_of, libs_of};
+use crate::declared::declares_of;
+use crate::given::add_given_types;
 use crate::global_variables::globals_of;
 use crate::marks::named_marks;
 use crate::pairs::with_pairs;
@@ -24,7 +25,18 @@ use ir_names::References;
 use ir_type_numbers::{NumberedTypes, classes, number_types};
 use std::alloc::Global;
 
-/// The types of a module, with pairs as the results of declared intrinsics with overflow. `libs` has one entry an item.
+/// All that a text spells but its functions, with what functions are made from.
+#[derive(Drop)]
+pub(crate) struct Outline {
+    pub(crate) module: Module,
+    /// For each spelled type the number of the type that it stands for.
+    pub(crate) numbers: Vec<u32>,
+    /// For each type of the module its class.
+    pub(crate) classes: Vec<u64>,
+}
+
+/// The types of a module, with pairs as the results of declared intrinsics with overflow, and after them those of values whose
+/// type isn't spelled. `libs` has one entry an item.
 fn with_all_pairs(
     alloc: Global,
     found: &Spellings,
@@ -32,7 +44,7 @@ fn with_all_pairs(
     libs: &[Option<Lib>],
 ) -> Result<NumberedTypes, OutOfMemory>
     ensures numbers { IfOk result (λ n. n.numbers.items ≡ numbered.numbers.items) }
-    ensures types { IfOk result (λ n. n.types ≡ with_pairs (store_of found.now).types numbered.fields numbered.types (store_of found.now).items libs.now) }
+    ensures types { IfOk result (λ n. n.types ≡ with_pairs (store_of found.now).types numbered.fields numbered.types (store_of found.now).items libs.now ++ given_types) }
     ensures fields { IfOk result (λ n. n.fields ≡ numbered.fields) }
 {
     let mut types = Vec::from_slice(alloc, numbered.types.as_slice())?;
@@ -43,6 +55,7 @@ fn with_all_pairs(
         &found.items,
         libs,
     );
+    add_given_types(alloc, &mut types)?;
     Ok(NumberedTypes {
         numbers: numbered.numbers,
         types: TypeList::from_vec(types),
@@ -60,7 +73,7 @@ fn types_of(
     requires sound { IsSoundStore (store_of found.now) }
     requires small { size_of (store_of found.now) < 2 ^ 32 }
     ensures numbers { IfOk result (λ n. n.numbers.items ≡ stands_for (store_of found.now).types leads.now) }
-    ensures types { IfOk result (λ n. n.types ≡ with_pairs (store_of found.now).types n.fields (module_types (store_of found.now).types (stands_for (store_of found.now).types leads.now)) (store_of found.now).items libs.now) }
+    ensures types { IfOk result (λ n. n.types ≡ with_pairs (store_of found.now).types n.fields (module_types (store_of found.now).types (stands_for (store_of found.now).types leads.now)) (store_of found.now).items libs.now ++ given_types) }
     ensures fields { IfOk result (λ n. n.fields ≡ module_fields (store_of found.now).fields (stands_for (store_of found.now).types leads.now)) }
 {
     let numbered = number_types(alloc, &found.types, &found.fields, leads)?;
@@ -102,7 +115,7 @@ fn without_variables(
     })
 }
 
-/// The module of these types.
+/// The module of these types, with its global variables.
 fn assembled(
     alloc: Global,
     tokens: &Tokens,
@@ -110,10 +123,11 @@ fn assembled(
     references: &References,
     numbered: NumberedTypes,
     libs: &[Option<Lib>],
-) -> Result<Module, OutOfMemory>
+) -> Result<Outline, OutOfMemory>
     requires few { length tokens.now.tokens < 2 ^ 32 }
     requires names { references.now.variables.items ≡ variables_of tokens.now.source (store_of found.now).items (store_of found.now) }
-    ensures { IfOk result (λ m. IsAssembled tokens.now.source tokens.now.tokens (store_of found.now) numbered.numbers.items numbered.types numbered.fields libs.now m) }
+    ensures numbers { IfOk result (λ o. o.numbers.items ≡ numbered.numbers.items) }
+    ensures assembled { IfOk result (λ o. IsAssembled tokens.now.source tokens.now.tokens (store_of found.now) numbered.numbers.items numbered.types numbered.fields o.classes.items libs.now o.module) }
 {
     let NumberedTypes {
         numbers,
@@ -121,7 +135,7 @@ fn assembled(
         fields,
     } = numbered;
     let bare = without_variables(alloc, tokens, found, &numbers, types, fields, libs)?;
-    with_variables(alloc, tokens, found, references, &numbers, bare)
+    with_variables(alloc, tokens, found, references, numbers, bare)
 }
 
 /// The classes of the types of a module: two that don't hold themselves are one exactly if these are equal.
@@ -166,12 +180,12 @@ fn with_variables(
     tokens: &Tokens,
     found: &Spellings,
     references: &References,
-    numbers: &[u32],
+    numbers: Vec<u32>,
     bare: Module,
-) -> Result<Module, OutOfMemory>
+) -> Result<Outline, OutOfMemory>
     requires layouts { HasLayouts bare }
     requires names { references.now.variables.items ≡ variables_of tokens.now.source (store_of found.now).items (store_of found.now) }
-    ensures { IfOk result (λ m. HasVariables tokens.now.source (store_of found.now) numbers.now bare m) }
+    ensures { IfOk result (λ o. HasVariables tokens.now.source (store_of found.now) numbers.items bare o) }
 {
     let classes = classes_of(alloc, &bare, found)?;
     let globals = variables(
@@ -179,30 +193,35 @@ fn with_variables(
         tokens,
         found,
         &bare,
-        numbers,
+        &numbers,
         &classes,
         &references.variables,
     )?;
     let mut module = bare;
     module.globals = globals;
-    Ok(module)
+    Ok(Outline {
+        module,
+        numbers,
+        classes,
+    })
 }
 
-/// The module that a text spells, by what was read of it and what its names mean.
-pub(crate) fn module_of(
+/// All that a text spells but its functions, by what was read of it, what its names mean, and the functions of the outside
+/// that its items declare, one entry an item.
+pub(crate) fn outline_of(
     alloc: Global,
     tokens: &Tokens,
     found: &Spellings,
     references: &References,
-) -> Result<Module, OutOfMemory>
+    libs: &[Option<Lib>],
+) -> Result<Outline, OutOfMemory>
     requires few { length tokens.now.tokens < 2 ^ 32 }
     requires sound { IsSoundStore (store_of found.now) }
     requires small { size_of (store_of found.now) < 2 ^ 32 }
     requires leads { references.now.leads.items ≡ leads_of tokens.now.source (store_of found.now).items (store_of found.now) }
     requires names { references.now.variables.items ≡ variables_of tokens.now.source (store_of found.now).items (store_of found.now) }
-    ensures { IfOk result (λ m. IsModuleOf tokens.now.source tokens.now.tokens (store_of found.now) m) }
+    ensures { IfOk result (λ o. IsOutline tokens.now.source tokens.now.tokens (store_of found.now) libs.now o) }
 {
-    let libs = libs_of(alloc, tokens, &found.items)?;
-    let numbered = types_of(alloc, found, &references.leads, &libs)?;
-    assembled(alloc, tokens, found, references, numbered, &libs)
+    let numbered = types_of(alloc, found, &references.leads, libs)?;
+    assembled(alloc, tokens, found, references, numbered, libs)
 }

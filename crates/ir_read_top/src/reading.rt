@@ -1,25 +1,24 @@
-ghost use Rattle.std.specs.Prelude.{◌≡◌, None, ◌<◌, ◌≤◌, ◌^◌, length, IfOk};
+ghost use Rattle.std.specs.Prelude.{◌≡◌, ◌≤◌, length, IfOk};
 ghost use Rattle.hw_base.specs.declared.numbers.TheConstants.{MOST_TEXT};
 ghost use Rattle.ir_core.specs.Resolved.{IsResolvedOutside};
+ghost use Rattle.ir_core.specs.Scopes.{HasEndingScopes};
 ghost use Rattle.ir_core.specs.Tokenisation.{IsTokenisation};
-ghost use Rattle.ir_grammar.specs.Grammar.{nesting_limit};
 ghost use Rattle.ir_grammar.specs.Spelled.{store_of};
-ghost use Rattle.ir_grammar.specs.SoundStore.{IsSoundStore, size_of};
-ghost use Rattle.ir_read_items.specs.ItemLaws.{IsModule};
-ghost use Rattle.ir_read_top.specs.Module.{defined_name, first_defined};
-ghost use Rattle.ir_read_top.specs.Texts.{sentence, refusal_at, place_with, names_error, flaw_error, IsRead, Gathers, Cuts, ReadsText};
+ghost use Rattle.ir_read_top.specs.Texts.{refusal_at, place_with, flaw_error, IsGathered, IsRead, Gathers, Cuts, ReadsText};
 
-use crate::assembly::module_of;
-use hw_base::{MOST_TEXT, OutOfMemory};
-use ir_core::{Fault, Limit, Module, Place, ReadError, Refusal, Token, Tokens};
-use ir_grammar::{Failure, SpelledItem, Spellings, Terminal, terminals};
+use crate::assembly::outline_of;
+use crate::bodies::read_functions;
+use crate::declared::libs_of;
+use hw_base::MOST_TEXT;
+use ir_core::{Fault, Limit, Module, Place, ReadError, Refusal, Tokens};
+use ir_grammar::{Failure, Spellings, Terminal, terminals};
 use ir_lex::{end_of, lex};
-use ir_names::{NamesError, resolve_names};
+use ir_names::resolve_names;
 use ir_read_items::read_items;
 use std::alloc::Global;
 
 /// The fault at a place.
-fn refusal_at(fault: Fault, place: Place) -> Refusal
+pub(crate) fn refusal_at(fault: Fault, place: Place) -> Refusal
     ensures { result ≡ refusal_at fault place }
 {
     Refusal {
@@ -39,16 +38,6 @@ fn place_with(end: Place, tokens: &[Terminal], left: usize) -> Place
     }
 }
 
-/// The error for the first fault of a name.
-fn names_error(error: NamesError) -> ReadError
-    ensures { result ≡ names_error error }
-{
-    match error {
-        NamesError::Fault(fault) => { ReadError::Refused(refusal_at(fault.fault, fault.at.place)) }
-        NamesError::OutOfMemory => ReadError::OutOfMemory,
-    }
-}
-
 /// The error for a flaw of these tokens.
 fn flaw_error(end: Place, tokens: &[Terminal], failure: Failure) -> ReadError
     ensures { result ≡ flaw_error end tokens.now failure }
@@ -61,64 +50,26 @@ fn flaw_error(end: Place, tokens: &[Terminal], failure: Failure) -> ReadError
     }
 }
 
-/// The module of what was read, or the first fault of a name.
-fn read_names(alloc: Global, tokens: &Tokens, found: &Spellings) -> Result<Module, ReadError>
-    requires short { length tokens.now.source ≤ MOST_TEXT }
-    requires few { length tokens.now.tokens < 2 ^ 32 }
-    requires cut { IsTokenisation tokens.now.source tokens.now.tokens }
-    requires derived { IsModule nesting_limit (sentence tokens.now.source tokens.now.tokens) (store_of found.now) }
-    requires plain { first_defined (store_of found.now).items ≡ None }
-    requires sound { IsSoundStore (store_of found.now) }
-    requires small { size_of (store_of found.now) < 2 ^ 32 }
-    ensures { ReadsText tokens.now.source result }
-{
-    match resolve_names(alloc, tokens.source(), &found.items, found) {
-        Ok(references) => match module_of(alloc, tokens, found, &references) {
-            Ok(module) => Ok(module),
-            Err(OutOfMemory) => Err(ReadError::OutOfMemory),
-        },
-        Err(error) => Err(names_error(error)),
-    }
-}
-
-/// The name of the function that an item defines.
-fn defined_name(item: &SpelledItem) -> Option<Token>
-    ensures { result ≡ defined_name item.now }
-{
-    match item {
-        SpelledItem::Define { name, .. } => Some(*name),
-        _ => None,
-    }
-}
-
-/// The name of the first function that items define.
-fn first_defined(items: &[SpelledItem]) -> Option<Token>
-    ensures { result ≡ first_defined items.now }
-{
-    let mut rest = items;
-    while let [item, after @ ..] = rest {
-        match defined_name(item) {
-            Some(name) => return Some(name),
-            None => rest = after,
-        }
-    }
-    None
-}
-
-/// The module of what was read, or the refusal of the first function that is defined, or the first fault of a name.
+/// The module of what was read, or the first fault of a later phase.
 fn read_found(alloc: Global, tokens: &Tokens, found: &Spellings) -> Result<Module, ReadError>
     requires short { length tokens.now.source ≤ MOST_TEXT }
-    requires few { length tokens.now.tokens < 2 ^ 32 }
+    requires few { length tokens.now.tokens ≤ MOST_TEXT }
     requires cut { IsTokenisation tokens.now.source tokens.now.tokens }
-    requires derived { IsModule nesting_limit (sentence tokens.now.source tokens.now.tokens) (store_of found.now) }
-    requires sound { IsSoundStore (store_of found.now) }
-    requires small { size_of (store_of found.now) < 2 ^ 32 }
+    requires gathered { IsGathered tokens.now.source tokens.now.tokens (store_of found.now) }
     ensures { ReadsText tokens.now.source result }
 {
-    match first_defined(&found.items) {
-        Some(name) => Err(ReadError::Refused(refusal_at(Fault::Unsupported, name.place))),
-        None => read_names(alloc, tokens, found),
-    }
+    let libs = libs_of(alloc, tokens, &found.items)?;
+    let names = resolve_names(alloc, tokens.source(), &found.items, found)?;
+    let outline = outline_of(alloc, tokens, found, &names.references, &libs)?;
+    read_functions(
+        alloc,
+        tokens,
+        found,
+        &libs,
+        &names.references,
+        outline,
+        names.fault,
+    )
 }
 
 /// The tokens of a text as the grammar sees them, with the end of the text after them, or the text's first fault.
@@ -173,15 +124,17 @@ fn read_short(alloc: Global, text: &[u8]) -> Result<Module, ReadError>
     }
 }
 
-/// A text of LLVM IR, without function bodies for now, read into a module (LLVM Language Reference). The accepted spelling is
-/// this project's profile of it. The error is `Refused` with the first fault of the first phase that has one: TooLarge if
-/// the text has more than 16 MiB; BadToken if no token can be read; BadSyntax, Unsupported, or TooLarge for nesting, at
-/// the first token with which no module begins, bodies included; Unsupported at the name of the first function that is
-/// defined; Unsupported, Unknown or Twice at the first name with a fault. Line and column
-/// count from 1, columns in bytes. Else memory ran out. Each number in the module names a thing that is there.
+/// A text of LLVM IR read into a module (LLVM Language Reference). The accepted spelling is this project's profile of it. The
+/// error is `Refused` with the first fault of the first phase that has one: TooLarge if the text has more than 16 MiB; BadToken
+/// if no token can be read; BadSyntax, Unsupported, or TooLarge for nesting, at the first token with which no module begins;
+/// Unsupported, Unknown or Twice at the first name with a fault, outside the bodies of functions or in one; NoMain at the end of
+/// the text, if no `i32 @main()` or `i32 @main(i32, ptr)` is defined; MetaCycle at the first debug location from which a chain
+/// of scopes or of inlined calls never ends. Line and column count from 1, columns in bytes. Else memory ran out. Each number in
+/// the module names a thing that is there.
 pub fn read(alloc: Global, text: &[u8]) -> Result<Module, ReadError>
     ensures text { ReadsText text.now result }
     ensures resolved { IfOk result IsResolvedOutside }
+    ensures scopes { IfOk result HasEndingScopes }
 {
     if text.len() as u64 > MOST_TEXT {
         let start = Place { line: 1, column: 1 };

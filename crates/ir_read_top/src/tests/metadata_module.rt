@@ -29,6 +29,7 @@ attributes #3 = { nounwind }
 !31 = distinct !{!31, !20, !32}
 !32 = !{!"llvm.loop.mustprogress"}
 !33 = !{!"int"}
+define i32 @main() { ret i32 0 }
 "#;
 
 /// A node as KIND LINE:COLUMN scope inlined file name.

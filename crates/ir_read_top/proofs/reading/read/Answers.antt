@@ -3,7 +3,7 @@ use Rattle.std.proofs.lemmas.List.Elements.{All-from_get_or}
 use Rattle.ir_first_values.proofs.TextBytes.{IsByte}
 use Rattle.ir_read_top.specs.Texts.{IsFaultOf, too_long, ReadsText}
 use Rattle.ir_read_top.proofs.Phases.{bad_text}
-use Rattle.ir_read_top.proofs.ResolvedModule.{resolved_answer}
+use Rattle.ir_read_top.proofs.ResolvedModule.{resolved_answer, ending_answer}
 use Rattle.ir_read_top.proofs.reading.read.Goals as goal
 
 pub returns-then-text-gt-MOST_TEXT-clause-text : goal.returns-then-text-gt-MOST_TEXT-clause-text
@@ -13,3 +13,6 @@ pub returns-clause-resolved : goal.returns-clause-resolved
 returns-clause-resolved c =
     let bytes : All IsByte c.args.text.now = All-from_get_or IsByte c.args.text.now 0 (λ k h. let fits = c.type_inv.text k in omega arith) in
     resolved_answer c.args.text.now c.read_short.result bytes c.read_short.ensures
+
+pub returns-clause-scopes : goal.returns-clause-scopes
+returns-clause-scopes c = ending_answer c.args.text.now c.read_short.result c.read_short.ensures
