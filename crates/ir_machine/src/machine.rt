@@ -8,6 +8,7 @@ use crate::progress::{Ending, Progress};
 use crate::run::Run;
 use crate::stepped::Stepped;
 use crate::turn::turn;
+use dbg_sites::Chains;
 use hw_base::OutOfMemory;
 use hw_tags::Options;
 use ir_core::Module;
@@ -84,6 +85,13 @@ impl Machine {
         ensures { result ≡ slice_get self.now.run.printed i }
     {
         self.run.printed_at(i)
+    }
+
+    /// The chains of sites: those of the calls and of the site at which a trap came.
+    pub fn chains(&self) -> &Chains
+        ensures { result.now ≡ self.now.run.seen.shared.chains }
+    {
+        self.run.chains()
     }
 
     /// How many steps were made.

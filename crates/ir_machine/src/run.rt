@@ -185,6 +185,13 @@ impl Run {
         self.printed.get(i as usize).copied()
     }
 
+    /// The chains of sites.
+    pub fn chains(&self) -> &Chains
+        ensures { result.now ≡ self.now.seen.shared.chains }
+    {
+        &self.chains
+    }
+
     /// How the run ended.
     pub fn ending(&self) -> Ending
         ensures { ending_of result ≡ self.now.ending }
