@@ -44,7 +44,7 @@ fn exit_text(alloc: Global, value: i32) -> Result<String, OutOfMemory>
     Ok(format!(in alloc; "ended: exit {value}")?)
 }
 
-fn ended_line(alloc: Global, value: i32, step: u64) -> Result<ByteList, OutOfMemory>
+pub(crate) fn ended_line(alloc: Global, value: i32, step: u64) -> Result<ByteList, OutOfMemory>
     ensures { IfOk result (λ text. text ≡ ended_line value step) }
 {
     let mut text = exit_text(alloc, value)?;
@@ -53,7 +53,7 @@ fn ended_line(alloc: Global, value: i32, step: u64) -> Result<ByteList, OutOfMem
 }
 
 #[tactic(auto, unfolding(crate::specs::Closing::spent_line))]
-fn spent_line(alloc: Global, bound: u64) -> Result<ByteList, OutOfMemory>
+pub(crate) fn spent_line(alloc: Global, bound: u64) -> Result<ByteList, OutOfMemory>
     ensures { IfOk result (λ text. text ≡ spent_line bound) }
 {
     let text = format!(in alloc; "spent: step {bound}\n")?;
@@ -75,7 +75,7 @@ fn living_text(alloc: Global, living: u64) -> Result<String, OutOfMemory>
     Ok(format!(in alloc; ", {living} living")?)
 }
 
-fn full_line(alloc: Global, full: Full, step: u64) -> Result<ByteList, OutOfMemory>
+pub(crate) fn full_line(alloc: Global, full: Full, step: u64) -> Result<ByteList, OutOfMemory>
     ensures { IfOk result (λ text. text ≡ full_line full step) }
 {
     let mut text = asked_text(alloc, full.space, full.asked)?;

@@ -12,3 +12,6 @@ pub use closing::closing_text;
 pub use ends::{Gathered, RunEnd, StepsMade};
 pub use job::run_gathered;
 pub use steps::run_steps;
+
+#[cfg(test)]
+mod tests;
