@@ -1,5 +1,5 @@
 -- The blocks of a function lie in rows: what reading one adds.
-use Rattle.std.proofs.Common.{◌≡◌, ℕ, ◌+◌, ◌≤◌, Bool, true, false, List, [], ◌∷◌, ◌++◌, length, Option, None, Some, ◌⊎◌, inl, inr, refl, sym, ◌∙◌, ap, subst, arith, length-append, append-nil, append_assoc}
+use Rattle.std.proofs.Common.{◌≡◌, ℕ, ◌+◌, ◌≤◌, Bool, true, false, List, [], ◌∷◌, ◌++◌, length, Option, None, Some, inl, inr, refl, sym, ◌∙◌, ap, subst, arith, length-append, append-nil, append_assoc}
 use Rattle.ir_core.specs.declared.token.Token.{Token}
 use Rattle.ir_grammar.specs.declared.kind.Kind.TheVariants as k
 use Rattle.ir_grammar.specs.declared.terminal.Terminal.{Terminal}
@@ -10,18 +10,18 @@ use Rattle.ir_grammar.specs.declared.spelled_bodies.SpelledInstruction.{SpelledI
 use Rattle.ir_grammar.specs.declared.spelled_bodies.SpelledBlock.{SpelledBlock}
 use Rattle.ir_grammar.specs.declared.spelled_bodies.TypedOperand.{TypedOperand}
 use Rattle.ir_grammar.specs.Kinds.{is_among}
-use Rattle.ir_grammar.specs.Rules.{Sort, nothing, token, base, pair, option, list, Value, one, refused, ◌⨾◌, ◌∣◌, optional, many, between, act, the, just, ◌▷◌}
-use Rattle.ir_grammar.specs.Names.{Base, number, operand, typed, operation, instruction, block, Production, shared}
+use Rattle.ir_grammar.specs.Rules.{token, base, pair, option, list, Value, ◌⨾◌, optional, the}
+use Rattle.ir_grammar.specs.Names.{number, operand, typed, instruction, block, shared}
 use Rattle.ir_grammar.specs.Spelled.{Store, token_in}
-use Rattle.ir_grammar.specs.SpelledBodies.{add_kept, kept_ones, with_instructions}
+use Rattle.ir_grammar.specs.SpelledBodies.{add_kept, kept_ones}
 use Rattle.ir_grammar.specs.Operands.{small_alignment, stated_alignment, alignment_end, plain_end, aligned_end}
 use Rattle.ir_grammar.specs.Instructions.{rest_sort, end_sort, binary_rest, icmp_rest, cast_rest, freeze_rest, select_rest, phi_head, phi_rest, alloca_rest, access_end, load_rest, store_rest, step_head, step_rest, fence_rest, ordered_end, rmw_rest, exchange_end, exchange_rest, extract_rest}
 use Rattle.ir_grammar.specs.Calls.{call_sort, add_called, call_head, call_rest, call_rule}
 use Rattle.ir_grammar.specs.Terminators.{return_rest, jump_end, branch_end, branch_rest, switch_head, switch_rest, unreachable_rest}
 use Rattle.ir_grammar.specs.Blocks.{worded_sort, value_instruction, memory_instruction, atomic_instruction, alloca, common_instruction, plain_instruction, plain_body, body_rule, instruction_rule, record_rule, block_part, block_parts, worded_terminator, terminator, block_rule, later_blocks, blocks_rule}
-use Rattle.ir_read_items.specs.Rows.{ends_block, IsEndedAfter, IsEnded, IsRow, AreRows, stated_in, IsStated, Each}
-use Rattle.ir_read_items.proofs.Runs.{Chain, Perhaps, Runs, each_append}
-use Rattle.ir_read_items.proofs.Calm.{Stay, on, calm_run, block_calm}
+use Rattle.ir_read_items.specs.Rows.{ends_block, IsEnded, IsRow, AreRows, stated_in, IsStated, Each}
+use Rattle.ir_read_items.proofs.Runs.{Chain, Runs, each_append}
+use Rattle.ir_read_items.proofs.Calm.{Stay, calm_run, block_calm}
 
 -- this is so of each integer that is a power of two up to 16
 abbrev pub IsFine : (Token → Type 0) → Terminal → Type 0

@@ -6,13 +6,12 @@ use Rattle.ir_grammar.specs.declared.context.Context.TheVariants as at
 use Rattle.ir_grammar.specs.declared.kind.Kind.{Kind}
 use Rattle.ir_grammar.specs.declared.kind.Kind.TheVariants as k
 use Rattle.ir_grammar.specs.declared.terminal.Terminal.{Terminal}
-use Rattle.ir_grammar.specs.declared.spelled.SpelledType.TheVariants as types
 use Rattle.ir_grammar.specs.declared.spelled_bodies.SpelledOperation.{SpelledOperation}
 use Rattle.ir_grammar.specs.declared.spelled_bodies.SpelledAttachment.{SpelledAttachment}
 use Rattle.ir_grammar.specs.declared.spelled_bodies.TypedOperand.{TypedOperand}
-use Rattle.ir_grammar.specs.Rules.{Sort, nothing, token, base, pair, option, list, Value, Derives, one, refused, ◌⨾◌, ◌∣◌, optional, many, between, act, the, gone, ◌▷◌, one_token, both, left, right, absent, present, done, again, inner, acted}
-use Rattle.ir_grammar.specs.Names.{Base, number, constant, parameter, typed, incoming, case, element, attachment as base_attachment, operation, instruction, block, Name, array_inside, types_inside, elements_inside, address_inside, parameters_inside, any_inside, incoming_inside, pair_inside, arguments_inside, cases_inside, scope_inside, blocks_inside, sort_of, Production, shared}
-use Rattle.ir_grammar.specs.Words.{texts, globals, meta_names, locals}
+use Rattle.ir_grammar.specs.Rules.{Sort, nothing, token, base, pair, option, list, Value, Derives, one, refused, ◌⨾◌, ◌∣◌, optional, many, between, act, the, ◌▷◌, one_token, both, left, right, absent, present, done, again, inner, acted}
+use Rattle.ir_grammar.specs.Names.{Base, number, constant, parameter, typed, incoming, case, element, attachment as base_attachment, instruction, Name, array_inside, types_inside, elements_inside, address_inside, parameters_inside, any_inside, incoming_inside, pair_inside, arguments_inside, cases_inside, scope_inside, blocks_inside, sort_of, Production, shared}
+use Rattle.ir_grammar.specs.Words.{globals, locals}
 use Rattle.ir_grammar.specs.Spelled.{Store, token_in}
 use Rattle.ir_grammar.specs.SpelledBodies.{add_kept}
 use Rattle.ir_grammar.specs.Calls.{call_sort, called_sort, add_called}
@@ -28,7 +27,6 @@ use Rattle.ir_grammar.specs.Calls.{argument_value, argument_rule, comma_argument
 use Rattle.ir_grammar.specs.Terminators.{simple_behind_void, operand_behind_void, void_alone, void_operand, solid_value, returned, return_rest, jump_end, branch_end, branch_rest, case_value, case_rule, cases_rule, cases, switch_head, switch_rest, unreachable_rest}
 use Rattle.ir_grammar.specs.Blocks.{value_instruction, memory_instruction, atomic_instruction, alloca, common_instruction, plain_instruction, plain_body, body_rule, result_name, instruction_rule, record_rule, block_part, block_parts, worded_terminator, terminator, block_rule, later_blocks, blocks_rule, function_body}
 use Rattle.ir_read_items.specs.Items.{equals_text, source_filename, layout_text, layout, triple, target_line, target, attribute_group, type_body, type_item, global_head, section_rest, section, attachment, global_part, comma_part, global_tail, global_value, global_item, packed_any, used_value, used_item, attachments, declare_attachment, declare_part, declare_tail, declare_head, declare_parameters, declare_item, define_part, define_tail, define_head, define_body, define_rest, define_item, bang_node, named_node, node, maybe_distinct, node_item, list_item, item, free_items, next_items, maybe_next_items, declare_group, declare_groups, module_rule}
-use Rattle.ir_read_items.specs.Rows.{Each}
 use Rattle.ir_read_items.proofs.Runs.{Chain, Perhaps, Runs}
 
 -- what was read of blocks and items stays

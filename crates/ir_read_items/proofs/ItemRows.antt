@@ -1,5 +1,5 @@
 -- What is read of a whole text lies in rows.
-use Rattle.std.proofs.Common.{◌≡◌, ℕ, ◌+◌, ◌≤◌, true, List, [], ◌∷◌, ◌++◌, length, Option, None, Some, ◌⊎◌, inl, inr, refl, sym, ◌∙◌, ap, subst, arith, length-append, append_assoc, zero-add}
+use Rattle.std.proofs.Common.{◌≡◌, ℕ, ◌+◌, ◌≤◌, List, [], ◌∷◌, ◌++◌, length, Option, None, Some, inl, inr, refl, sym, ◌∙◌, ap, subst, arith, length-append, append_assoc, zero-add}
 use Rattle.ir_core.specs.declared.token.Token.{Token}
 use Rattle.ir_grammar.specs.declared.context.Context.TheVariants as at
 use Rattle.ir_grammar.specs.declared.kind.Kind.{Kind}
@@ -10,20 +10,18 @@ use Rattle.ir_grammar.specs.declared.spelled.SpelledItem.TheVariants as items
 use Rattle.ir_grammar.specs.declared.spelled.SpelledParameter.{SpelledParameter}
 use Rattle.ir_grammar.specs.declared.spelled_bodies.SpelledInstruction.{SpelledInstruction}
 use Rattle.ir_grammar.specs.declared.spelled_bodies.SpelledBlock.{SpelledBlock}
-use Rattle.ir_grammar.specs.Rules.{Sort, nothing, token, base, pair, list, Value, one, ◌⨾◌, ◌∣◌, optional, many, between, act, the, gone, ◌▷◌}
-use Rattle.ir_grammar.specs.Names.{Base, number, constant, parameter, block, blocks_inside, sort_of, Production, shared}
+use Rattle.ir_grammar.specs.Rules.{Sort, nothing, token, base, pair, list, Value, one, ◌⨾◌, act, the, ◌▷◌}
+use Rattle.ir_grammar.specs.Names.{Base, number, constant, parameter, block, Production, shared}
 use Rattle.ir_grammar.specs.Words.{locals, globals, meta_names}
 use Rattle.ir_grammar.specs.Spelled.{Store, add_item}
 use Rattle.ir_grammar.specs.SpelledBodies.{add_define}
-use Rattle.ir_grammar.specs.Grammar.{production}
 use Rattle.ir_grammar.specs.Skipped.{in_braces}
-use Rattle.ir_grammar.specs.Types.{type_rule}
 use Rattle.ir_grammar.specs.Parameters.{parameters}
 use Rattle.ir_grammar.specs.Blocks.{blocks_rule, function_body}
 use Rattle.ir_read_body.specs.BodyReading.{nothing_read}
 use Rattle.ir_read_items.specs.Items.{source_filename, target_line, target, attribute_group, equals_text, type_body, type_item, global_head, global_value, global_tail, global_item, used_value, used_item, declare_head, declare_parameters, declare_item, define_tail, define_head, define_body, define_rest, define_item, bang_node, node, maybe_distinct, node_item, list_item, item, free_items, next_items, maybe_next_items, declare_group, declare_groups, module_rule}
 use Rattle.ir_read_items.specs.ItemLaws.{IsModule}
-use Rattle.ir_read_items.specs.Rows.{AreRows, HasBlocks, IsStated, Each, IsInRows}
+use Rattle.ir_read_items.specs.Rows.{AreRows, HasBlocks, Each, IsInRows}
 use Rattle.ir_read_items.proofs.Runs.{Chain, Perhaps, Runs, runs, each_append}
 use Rattle.ir_read_items.proofs.Calm.{Stay, still, on, Calm, calm_run, source_calm, target_calm, group_calm, type_item_calm, global_calm, used_calm, declare_calm, define_head_calm, parameters_calm, define_tail_calm, node_item_calm, list_item_calm}
 use Rattle.ir_read_items.proofs.BlockRows.{IsFine, IsStatedIn, BlocksAdded, blocks_so}

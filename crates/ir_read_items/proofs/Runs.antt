@@ -2,7 +2,7 @@
 use Rattle.std.proofs.Common.{◌≡◌, ℕ, List, [], ◌∷◌, ◌++◌, Option, None, Some, true, ◌⊎◌, inl, inr, refl}
 use Rattle.ir_grammar.specs.declared.terminal.Terminal.{Terminal}
 use Rattle.ir_grammar.specs.Kinds.{is_among}
-use Rattle.ir_grammar.specs.Rules.{Sort, nothing, token, base, pair, option, list, Value, one, refused, ◌⨾◌, ◌∣◌, optional, many, between, act, Derives, one_token, both, left, right, absent, present, done, again, inner, acted}
+use Rattle.ir_grammar.specs.Rules.{Sort, list, Value, one, refused, ◌⨾◌, ◌∣◌, optional, many, between, act, Derives, one_token, both, left, right, absent, present, done, again, inner, acted}
 use Rattle.ir_grammar.specs.Names.{Base, Name, sort_of, Production, shared}
 use Rattle.ir_grammar.specs.Spelled.{Store}
 use Rattle.ir_grammar.specs.Grammar.{production}

@@ -1,5 +1,5 @@
 -- From the functions of a module to what a text is read into.
-use Rattle.std.proofs.Common.{◌≡◌, ℕ, ◌+◌, ◌^◌, ◌<◌, ◌≤◌, List, [], ◌∷◌, ◌++◌, length, map, Option, Some, None, Result, Ok, Err, ◌⊎◌, inl, inr, refl, sym, ◌∙◌, ap, subst, arith}
+use Rattle.std.proofs.Common.{◌≡◌, ℕ, ◌^◌, ◌<◌, ◌≤◌, List, [], length, map, Option, Some, None, Result, Ok, Err, inl, inr, refl, sym, ◌∙◌, ap, subst, arith}
 use Rattle.std.specs.Option.{option_map}
 use Rattle.std.proofs.lemmas.List.{length-map}
 use Rattle.std.proofs.lemmas.List.Sums.{fold-append}
@@ -23,7 +23,6 @@ use Rattle.ir_names.specs.First.{earlier, first_beside, first_fault}
 use Rattle.ir_names.specs.Faults.{name_faults}
 use Rattle.ir_names.specs.Keys.{global_key}
 use Rattle.ir_first_values.specs.Tables.{Tables}
-use Rattle.ir_body_names.specs.BodyFaults.{Surroundings}
 use Rattle.ir_functions.specs.Functions.{Spelled}
 use Rattle.ir_read_items.specs.Rows.{Each}
 use Rattle.ir_read_items.proofs.ItemRows.{any_rows}

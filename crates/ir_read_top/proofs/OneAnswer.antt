@@ -1,10 +1,9 @@
 -- A text has one answer: it is accepted, or refused for one fault.
-use Rattle.std.proofs.Common.{◌≡◌, ℕ, ◌+◌, ◌<◌, ◌≤◌, Bool, cond, List, [], ◌∷◌, ◌++◌, length, map, take, drop, Some, None, Ok, Err, Option, Result, refl, sym, ◌∙◌, ap, subst, arith, append-nil}
+use Rattle.std.proofs.Common.{◌≡◌, ℕ, ◌+◌, ◌<◌, ◌≤◌, cond, List, [], ◌∷◌, ◌++◌, length, map, take, drop, Some, None, Ok, Err, Option, Result, refl, sym, ◌∙◌, ap, subst, arith, append-nil}
 use Rattle.hw_base.specs.declared.numbers.TheConstants.{MOST_TEXT}
 use Rattle.ir_core.specs.declared.token.Token.{Token}
 use Rattle.ir_core.specs.declared.refusals.Place.{Place}
 use Rattle.ir_core.specs.declared.refusals.Refusal.{Refusal}
-use Rattle.ir_core.specs.declared.faults.Fault.{Fault}
 use Rattle.ir_core.specs.declared.faults.Fault.TheVariants.{BadToken, MetaCycle}
 use Rattle.ir_core.specs.declared.lib_functions.Lib.{Lib}
 use Rattle.ir_core.specs.declared.meta.Node.{Node}
@@ -13,7 +12,7 @@ use Rattle.ir_core.specs.declared.ir_module.Module.{Module}
 use Rattle.ir_core.specs.Tokens.{bytes_of}
 use Rattle.ir_core.specs.Scopes.{cycle_at, cycle_in, first_cycle, place_or, scopes_fault}
 use Rattle.ir_core.specs.Externals.{IsExternal}
-use Rattle.ir_core.specs.Tokenisation.{IsTokenisation, IsBadTokenAt, place_after}
+use Rattle.ir_core.specs.Tokenisation.{IsTokenisation, place_after}
 use Rattle.ir_text.specs.Names.{global_name}
 use Rattle.ir_lex.proofs.Cuts.{one_tokenisation, one_bad_place}
 use Rattle.ir_lex.proofs.Cuts as cuts
@@ -21,7 +20,6 @@ use Rattle.ir_grammar.specs.declared.spelled.SpelledItem.{SpelledItem}
 use Rattle.ir_grammar.specs.declared.spelled.SpelledItem.TheVariants as items
 use Rattle.ir_grammar.specs.declared.spelled_bodies.SpelledAttachment.{SpelledAttachment}
 use Rattle.ir_grammar.specs.declared.spelled_bodies.SpelledInstruction.{SpelledInstruction}
-use Rattle.ir_grammar.specs.declared.terminal.Terminal.{Terminal}
 use Rattle.ir_grammar.specs.declared.terminal.Flaw.{Flaw}
 use Rattle.ir_grammar.specs.Spelled.{Store}
 use Rattle.ir_grammar.specs.Grammar.{nesting_limit}

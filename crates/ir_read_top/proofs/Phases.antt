@@ -1,5 +1,5 @@
 -- From what each phase answers to what a text is read into.
-use Rattle.std.proofs.Common.{◌≡◌, ℕ, ◌+◌, ◌*◌, ◌^◌, ◌<◌, ◌≤◌, List, [], ◌∷◌, length, sym, ◌∙◌, ap, subst, refl, arith, length-append, Ok, Err, None}
+use Rattle.std.proofs.Common.{◌≡◌, ℕ, ◌+◌, ◌*◌, ◌^◌, ◌<◌, ◌≤◌, List, [], ◌∷◌, length, sym, ◌∙◌, ap, subst, refl, arith, length-append, Ok, Err}
 use Rattle.hw_base.specs.declared.numbers.TheConstants.{MOST_TEXT}
 use Rattle.ir_core.specs.declared.token.Token.{Token}
 use Rattle.ir_core.specs.declared.refusals.Place.{Place}
@@ -13,13 +13,11 @@ use Rattle.ir_grammar.specs.Spelled.{Store}
 use Rattle.ir_grammar.specs.KindOf.{terminals_of, end_of_text, text_of}
 use Rattle.ir_grammar.specs.declared.terminal.Failure.{Failure}
 use Rattle.ir_grammar.specs.declared.terminal.Failure.TheVariants as failures
-use Rattle.ir_grammar.specs.Grammar.{nesting_limit}
 use Rattle.ir_grammar.specs.declared.terminal.Terminal.{Terminal}
 use Rattle.ir_grammar.specs.SoundStore.{IsSoundStore, size_of}
 use Rattle.ir_lex.proofs.Cuts.{one_tokenisation}
 use Rattle.ir_read_items.specs.ItemReading.{spelled, ReadsItems}
 use Rattle.ir_read_items.proofs.Spelled.{text_is_module}
-use Rattle.ir_read_items.specs.ItemLaws.{IsModule}
 use Rattle.ir_read_top.specs.Texts.{sentence, refusal_at, flaw_error, IsFaultOf, bad_token, flawed, ReadsText, IsGathered, IsRead, IsSentence}
 
 length-terminals : (source : List ℕ) (ts : List Token) → length (terminals_of source ts) ≡ length ts

@@ -1,6 +1,6 @@
 -- The functions that a text defines, what the names in their bodies are resolved against, and which of them is `main` (LLVM
 -- Language Reference, "Functions"). That a program begins at `i32 @main()` or `i32 @main(i32, ptr)` is that of C.
-use Rattle.std.specs.Prelude.{ℕ, ◌+◌, ◌<◌, ◌^◌, ◌==◌, ◌&&◌, Bool, true, false, List, [], ◌∷◌, ◌++◌, map, take, drop, length, slice_get, codes, Option, Some, None}
+use Rattle.std.specs.Prelude.{ℕ, ◌+◌, ◌<◌, ◌^◌, ◌==◌, ◌&&◌, Bool, true, false, List, [], ◌∷◌, ◌++◌, map, take, drop, length, slice_get, codes, Option, Some}
 use Rattle.std.specs.List.{position_from}
 use Rattle.std.specs.Str.{bytes_eq}
 use Rattle.ir_core.specs.declared.token.Token.{Token}

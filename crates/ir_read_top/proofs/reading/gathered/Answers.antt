@@ -1,4 +1,4 @@
-use Rattle.std.proofs.Common.{◌≡◌, ◌*◌, ◌≤◌, length, sym, ◌∙◌, ap, subst, Ok, Err}
+use Rattle.std.proofs.Common.{◌≡◌, ◌*◌, ◌≤◌, length, sym, ◌∙◌, ap, subst, Err}
 use Rattle.ir_core.specs.Tokenisation.{place_after}
 use Rattle.ir_grammar.specs.Spelled.{store_of}
 use Rattle.ir_grammar.specs.SoundStore.{size_of}

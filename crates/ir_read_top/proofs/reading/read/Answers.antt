@@ -1,8 +1,7 @@
 use Rattle.std.proofs.Common.{All, sym, subst, arith}
 use Rattle.std.proofs.lemmas.List.Elements.{All-from_get_or}
 use Rattle.ir_first_values.proofs.TextBytes.{IsByte}
-use Rattle.ir_read_top.specs.Texts.{IsFaultOf, too_long, ReadsText}
-use Rattle.ir_read_top.proofs.Phases.{bad_text}
+use Rattle.ir_read_top.specs.Texts.{IsFaultOf, too_long}
 use Rattle.ir_read_top.proofs.ResolvedModule.{resolved_answer, ending_answer}
 use Rattle.ir_read_top.proofs.reading.read.Goals as goal
 
