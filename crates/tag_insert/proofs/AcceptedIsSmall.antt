@@ -1,5 +1,5 @@
 -- Code is made of each accepted module: its registers, places and addresses are numbers that the code can hold.
-use Rattle.std.proofs.Common.{◌≡◌, ◌∙◌, ap, sym, refl, subst, arith, ℕ, zero, suc, ◌<◌, ◌≤◌, ◌^◌, List, [], ◌∷◌, length, get_or, slice_get, Bool, true, nat_le, inl, inr, All, Option, Some, None, IfSome}
+use Rattle.std.proofs.Common.{◌≡◌, ◌∙◌, ap, sym, refl, arith, ℕ, zero, suc, ◌<◌, ◌≤◌, ◌^◌, List, [], ◌∷◌, length, get_or, true, nat_le, inl, inr, All, Option, Some, None, IfSome}
 use Rattle.std.specs.List.{list_all}
 use Rattle.std.proofs.lemmas.Option.{slice_get_cases}
 use Rattle.std.proofs.lemmas.Bool.Decides.{nat_tests}
@@ -20,8 +20,8 @@ use Rattle.ir_core.specs.declared.ir_module.Inst.{Inst}
 use Rattle.ir_core.specs.declared.ir_module.Function.{Function}
 use Rattle.ir_core.specs.declared.ir_module.Module.{Module}
 use Rattle.ir_core.specs.ResolvedBodies.{IsResolvedOperand, IsResolvedPlaced, IsResolvedOp, IsResolvedFunction}
-use Rattle.ir_check_types.specs.Order.{earlier, first_among, refusal_at}
-use Rattle.ir_check_types.specs.Rules.{loop_fault, operation_fault, instruction_fault, instructions_fault, function_fault, name_fault, type_fault, start_of_text}
+use Rattle.ir_check_types.specs.Order.{first_among, refusal_at}
+use Rattle.ir_check_types.specs.Rules.{loop_fault, operation_fault, instruction_fault, instructions_fault, function_fault, name_fault, start_of_text}
 use Rattle.ir_check_types.proofs.PassedRules.{none_first, none_second, none_among, holds, both, get_at}
 use Rattle.ir_check_flow.specs.Checked.{IsChecked}
 use Rattle.ir_check_flow.specs.Limits.{at_most, too_many_at, count_limit, function_limit, is_small, globals_limit, has_small_types, has_small_variables}
@@ -50,26 +50,26 @@ small-if m f None few there = tt
 small-if m f (Some value) few there = small-placed m f value few there
 
 small-op : (m : Module) (f : Function) (o : Op) → length f.regs < 2 ^ 30 → IsResolvedOp m f o → IsSmallOp o
-small-op m f (op.Binary kind a b) few (one , two) = (small-placed m f a few one , small-placed m f b few two)
-small-op m f (op.Icmp pred a b) few (one , two) = (small-placed m f a few one , small-placed m f b few two)
-small-op m f (op.Cast kind a to) few (one , two) = small-placed m f a few one
-small-op m f (op.Select cond a b) few (one , two , three) = (small-placed m f cond few one , small-placed m f a few two , small-placed m f b few three)
+small-op m f (op.Binary kind a b) few (one, two) = (small-placed m f a few one, small-placed m f b few two)
+small-op m f (op.Icmp pred a b) few (one, two) = (small-placed m f a few one, small-placed m f b few two)
+small-op m f (op.Cast kind a to) few (one, two) = small-placed m f a few one
+small-op m f (op.Select cond a b) few (one, two, three) = (small-placed m f cond few one, small-placed m f a few two, small-placed m f b few three)
 small-op m f (op.Freeze a) few one = small-placed m f a few one
-small-op m f (op.Phi ty entries) few (one , two) = λ k d lt. small-placed m f (get_or entries k d).value few (two k d lt).value
+small-op m f (op.Phi ty entries) few (one, two) = λ k d lt. small-placed m f (get_or entries k d).value few (two k d lt).value
 small-op m f (op.Alloca index ty count) few there = tt
-small-op m f (op.Load ty at align) few (one , two , three) = small-placed m f at few two
-small-op m f (op.Store value at align) few (one , two , three) = (small-placed m f value few one , small-placed m f at few two)
-small-op m f (op.Gep ty base indices) few (one , two , three) = (small-placed m f base few two , small-all m f indices few three)
+small-op m f (op.Load ty at align) few (one, two, three) = small-placed m f at few two
+small-op m f (op.Store value at align) few (one, two, three) = (small-placed m f value few one, small-placed m f at few two)
+small-op m f (op.Gep ty base indices) few (one, two, three) = (small-placed m f base few two, small-all m f indices few three)
 small-op m f op.Fence few there = tt
-small-op m f (op.Rmw kind at value align) few (one , two , three) = (small-placed m f at few one , small-placed m f value few two)
-small-op m f (op.CmpXchg at expected new align) few (one , two , three , four) =
-    (small-placed m f at few one , small-placed m f expected few two , small-placed m f new few three)
+small-op m f (op.Rmw kind at value align) few (one, two, three) = (small-placed m f at few one, small-placed m f value few two)
+small-op m f (op.CmpXchg at expected new align) few (one, two, three, four) =
+    (small-placed m f at few one, small-placed m f expected few two, small-placed m f new few three)
 small-op m f (op.ExtractValue pair part) few one = small-placed m f pair few one
-small-op m f (op.Call func result args) few (one , two , three) = small-all m f args few three
-small-op m f (op.CallLib declare result args start) few (one , two , three , four) = small-all m f args few three
+small-op m f (op.Call func result args) few (one, two, three) = small-all m f args few three
+small-op m f (op.CallLib declare result args start) few (one, two, three, four) = small-all m f args few three
 small-op m f (op.Br block) few there = tt
-small-op m f (op.BrIf cond yes_block no_block) few (one , two , three) = small-placed m f cond few one
-small-op m f (op.Switch on other cases) few (one , two , three) = small-placed m f on few one
+small-op m f (op.BrIf cond yes_block no_block) few (one, two, three) = small-placed m f cond few one
+small-op m f (op.Switch on other cases) few (one, two, three) = small-placed m f on few one
 small-op m f (op.Ret value) few there = small-if m f value few there
 small-op m f op.Unreachable few there = tt
 
@@ -106,8 +106,8 @@ under count most limit place none = let test : nat_le count most ≡ true = hold
 few-functions : (functions : List Function) → count_limit functions ≡ None → length functions ≤ MOST_FUNCTIONS
 few-functions functions none =
     elim ((slice_get_cases functions MOST_FUNCTIONS).1) [
-      | inl (f , inside , there , same) ↦ let some : Some (refusal_at (TooLarge Functions) f.place) ≡ None = sym (ap too_many_at there) ∙ none in cc
-      | inr (few , past) ↦ few
+      | inl (f, inside, there, same) ↦ let some : Some (refusal_at (TooLarge Functions) f.place) ≡ None = sym (ap too_many_at there) ∙ none in cc
+      | inr (few, past) ↦ few
     ]
 
 -- ---- modules

@@ -1,8 +1,8 @@
 -- Fields begin within their struct, and each has a size if the struct has one.
-use Rattle.std.proofs.Common.{◌≡◌, ◌∙◌, ap, sym, refl, arith, ℕ, zero, suc, ◌<◌, ◌≤◌, ◌+◌, List, [], ◌∷◌, length, take, fold, Bool, true, false}
+use Rattle.std.proofs.Common.{◌≡◌, ap, refl, arith, ℕ, zero, suc, ◌<◌, ◌≤◌, ◌+◌, List, [], ◌∷◌, length, take, fold, Bool}
 use Rattle.ir_core.specs.declared.types.TypeLayout.{TypeLayout}
 use Rattle.ir_core.specs.declared.types.TypeLayout.TheVariants.{Known, NoSize, Loop}
-use Rattle.ir_core.specs.Layout.{field_align, field_start, with_field, rounded, layout_at, layout_size, layout_align}
+use Rattle.ir_core.specs.Layout.{field_start, with_field, rounded, layout_at, layout_size, layout_align}
 
 start-above : (packed : Bool) (at align : ℕ) → at ≤ field_start packed at align
 start-above packed at align = omega arith
@@ -12,16 +12,16 @@ abbrev pub IsBelow : TypeLayout → ℕ → Type 0
 IsBelow layout size = (at most : ℕ) × (layout ≡ Known at most) × (at ≤ size)
 
 one-before : (packed : Bool) (so_far field : TypeLayout) (size : ℕ) → IsBelow (with_field packed so_far field) size → IsBelow so_far size
-one-before packed (Known at most) (Known own align) size (after , greatest , same , less) =
+one-before packed (Known at most) (Known own align) size (after, greatest, same, less) =
     let ends : field_start packed at align + own ≡ after = ap layout_size same in
     let above = start-above packed at align in
-    (at , most , refl , omega (arith, ends, above, less))
-one-before packed (Known at most) NoSize size (after , greatest , same , less) = cc
-one-before packed (Known at most) Loop size (after , greatest , same , less) = cc
-one-before packed NoSize (Known own align) size (after , greatest , same , less) = cc
-one-before packed NoSize NoSize size (after , greatest , same , less) = cc
-one-before packed NoSize Loop size (after , greatest , same , less) = cc
-one-before packed Loop field size (after , greatest , same , less) = cc
+    (at, most, refl, omega (arith, ends, above, less))
+one-before packed (Known at most) NoSize size (after, greatest, same, less) = cc
+one-before packed (Known at most) Loop size (after, greatest, same, less) = cc
+one-before packed NoSize (Known own align) size (after, greatest, same, less) = cc
+one-before packed NoSize NoSize size (after, greatest, same, less) = cc
+one-before packed NoSize Loop size (after, greatest, same, less) = cc
+one-before packed Loop field size (after, greatest, same, less) = cc
 
 all-before :
     (packed : Bool) (fields : List TypeLayout) (so_far : TypeLayout) (size : ℕ) → IsBelow (fold (with_field packed) so_far fields) size
@@ -39,15 +39,15 @@ pub record FieldInside (packed : Bool) (so_far : TypeLayout) (fields : List Type
 first-inside :
     (packed : Bool) (so_far field : TypeLayout) (fields : List TypeLayout) (size : ℕ) → IsBelow (with_field packed so_far field) size
     → FieldInside packed so_far (field ∷ fields) 0 size
-first-inside packed (Known at most) (Known own align) fields size (after , greatest , same , less) =
+first-inside packed (Known at most) (Known own align) fields size (after, greatest, same, less) =
     let ends : field_start packed at align + own ≡ after = ap layout_size same in
     record { begins = omega (arith, ends, less); own = own; align = align; known = refl }
-first-inside packed (Known at most) NoSize fields size (after , greatest , same , less) = cc
-first-inside packed (Known at most) Loop fields size (after , greatest , same , less) = cc
-first-inside packed NoSize (Known own align) fields size (after , greatest , same , less) = cc
-first-inside packed NoSize NoSize fields size (after , greatest , same , less) = cc
-first-inside packed NoSize Loop fields size (after , greatest , same , less) = cc
-first-inside packed Loop field fields size (after , greatest , same , less) = cc
+first-inside packed (Known at most) NoSize fields size (after, greatest, same, less) = cc
+first-inside packed (Known at most) Loop fields size (after, greatest, same, less) = cc
+first-inside packed NoSize (Known own align) fields size (after, greatest, same, less) = cc
+first-inside packed NoSize NoSize fields size (after, greatest, same, less) = cc
+first-inside packed NoSize Loop fields size (after, greatest, same, less) = cc
+first-inside packed Loop field fields size (after, greatest, same, less) = cc
 
 pub field-inside :
     (packed : Bool) (fields : List TypeLayout) (so_far : TypeLayout) (k size : ℕ) → IsBelow (fold (with_field packed) so_far fields) size
@@ -61,6 +61,6 @@ field-inside packed (field ∷ fields) so_far (suc k) size below lt =
 
 -- the fields of a struct end within its size
 pub rounded-below : (layout : TypeLayout) (size align : ℕ) → rounded layout ≡ Known size align → IsBelow layout size
-rounded-below (Known end most) size align same = let whole = ap layout_size same in (end , most , refl , omega (arith, whole))
+rounded-below (Known end most) size align same = let whole = ap layout_size same in (end, most, refl, omega (arith, whole))
 rounded-below NoSize size align same = cc
 rounded-below Loop size align same = cc

@@ -1,5 +1,5 @@
 -- In a module that is accepted each offset of a field on the way to an address is below 2^64 bytes.
-use Rattle.std.proofs.Common.{◌≡◌, ◌∙◌, ap, sym, refl, subst, arith, ℕ, zero, suc, ◌<◌, ◌≤◌, ◌+◌, ◌^◌, List, [], ◌∷◌, length, take, drop, map, get_or, slice_index, Bool, true, false, ◌&&◌, nat_lt, All, Option, Some, None}
+use Rattle.std.proofs.Common.{◌≡◌, ◌∙◌, ap, sym, refl, subst, arith, ℕ, zero, suc, ◌<◌, ◌≤◌, ◌+◌, ◌^◌, List, [], ◌∷◌, length, drop, map, get_or, slice_index, Bool, true, nat_lt, All, Option, Some, None}
 use Rattle.std.proofs.lemmas.List.{get_or-map, get_or-take, get_or-drop, length-take, length-drop, length-map}
 use Rattle.std.proofs.lemmas.Bool.Decides.{nat_tests}
 use Rattle.hw_base.specs.declared.numbers.TheConstants.{MOST_SIZE}
@@ -12,20 +12,18 @@ use Rattle.ir_core.specs.declared.refusals.Place.{Place}
 use Rattle.ir_core.specs.declared.operands.Placed.{Placed}
 use Rattle.ir_core.specs.declared.ir_module.Function.{Function}
 use Rattle.ir_core.specs.declared.ir_module.Module.{Module}
-use Rattle.ir_core.specs.IndexSteps.{AddressStep, inner_steps, index_steps, scaled_step, field_step, step_before}
-use Rattle.ir_core.specs.Layout.{is_known, layout_at, layout_size, layout_align, capped, layouts_of, exact_layouts, type_layout, array_layout, field_types, fields_layout, has_size_of}
+use Rattle.ir_core.specs.IndexSteps.{AddressStep, inner_steps, scaled_step, field_step, step_before}
+use Rattle.ir_core.specs.Layout.{is_known, layout_at, layout_size, layout_align, capped, exact_layouts, type_layout, array_layout, field_types, fields_layout, has_size_of}
 use Rattle.ir_core.specs.NumberTypes.{type_of, field_type, field_offset, constant_number}
-use Rattle.ir_core.specs.Progress.{type_at}
 use Rattle.ir_core.specs.Resolved.{IsResolvedType, HasLayouts}
 use Rattle.ir_core.proofs.Capping.{layout_at-capped, type_layout-capped}
 use Rattle.ir_core.proofs.Deepening.{IsLaid, is_loop-capped, laid_is_within, length-within}
 use Rattle.ir_core.proofs.Offsets.{exact_layout}
 use Rattle.ir_check_types.specs.Operands.{is_same, integer_fault, typed_fault}
-use Rattle.ir_check_types.specs.Order.{earlier, unless}
-use Rattle.ir_check_types.specs.Instructions.{is_constant, is_field_index, is_step, step_fault, steps_fault, sized_fault, indices_fault, address_fault}
+use Rattle.ir_check_types.specs.Instructions.{is_constant, is_field_index, step_fault, steps_fault, sized_fault, indices_fault, address_fault}
 use Rattle.ir_check_types.proofs.PassedRules.{none_first, none_second, holds, both}
 use Rattle.tag_insert.specs.SmallSteps.{IsSmallStep, HasSmallSteps}
-use Rattle.tag_insert.proofs.FieldBounds.{FieldInside, IsBelow, field-inside, rounded-below}
+use Rattle.tag_insert.proofs.FieldBounds.{field-inside, rounded-below}
 
 -- what is used of a module
 pub record HasSmallTypes (m : Module) : Type 0 where
@@ -54,7 +52,7 @@ laid-out m n size align small known =
     let exact = exact_layouts m.types m.fields in
     let type = type_of m n in
     let capped-known : capped (layout_at exact n) ≡ Known size align =
-        sym (layout_at-capped exact n) ∙ sym (ap (λ layouts. layout_at layouts n) small.layouts) ∙ known in
+    sym (layout_at-capped exact n) ∙ sym (ap (λ layouts. layout_at layouts n) small.layouts) ∙ known in
     let one : IsLaid (capped (layout_at exact n) ∷ []) 0 = subst (λ layout. IsLaid (layout ∷ []) 0) (sym capped-known) refl in
     let laid : IsLaid exact n = sym (is_loop-capped (layout_at exact n)) ∙ one in
     let within = laid_is_within exact n laid in
@@ -62,8 +60,8 @@ laid-out m n size align small known =
     let under = small.small n in
     let low : size ≤ 2 ^ 40 = omega (arith, under, ap layout_size known) in
     let kept : capped (type_layout m.fields m.layouts type) ≡ Known size align =
-        ap (λ layouts. capped (type_layout m.fields layouts type)) small.layouts ∙ type_layout-capped m.fields exact type
-        ∙ ap capped (sym (exact_layout m.types m.fields n inside laid)) ∙ capped-known in
+    ap (λ layouts. capped (type_layout m.fields layouts type)) small.layouts ∙ type_layout-capped m.fields exact type
+    ∙ ap capped (sym (exact_layout m.types m.fields n inside laid)) ∙ capped-known in
     record { inside = inside; layout = uncapped (type_layout m.fields m.layouts type) size align kept low }
 
 -- ---- lists of steps
@@ -91,7 +89,7 @@ item-sized m count item size align known = by-layout (layout_at m.layouts item) 
   where
     by-layout :
         (layout : TypeLayout) → layout_at m.layouts item ≡ layout → array_layout count layout ≡ Known size align → IsSized m item
-    by-layout (Known own most) is same = (own , most , is)
+    by-layout (Known own most) is same = (own, most, is)
     by-layout NoSize is same = cc
     by-layout Loop is same = cc
 
@@ -122,18 +120,18 @@ small-field m first count packed k size align known low room lt =
     let inside = field-inside packed fields (Known 0 1) k size (rounded-below (fields_layout packed fields) size align known) (omega (arith, many, mapped)) in
     let at : layout_at fields k ≡ layout_at m.layouts (get_or numbers k 0) = get_or-map (layout_at m.layouts) numbers k 0 Loop many in
     let number : get_or numbers k 0 ≡ slice_index m.fields (first + k) =
-        get_or-take count (drop first m.fields) k 0 lt ∙ get_or-drop first m.fields k 0 in
+    get_or-take count (drop first m.fields) k 0 lt ∙ get_or-drop first m.fields k 0 in
     let begins = inside.begins in
     record {
       begins = omega (arith, begins, low);
-      sized = (inside.own , inside.align , sym (ap (layout_at m.layouts) number) ∙ sym at ∙ inside.known);
+      sized = (inside.own, inside.align, sym (ap (layout_at m.layouts) number) ∙ sym at ∙ inside.known);
     }
 
 -- one index, by the type that it goes into and what is known of those after it
 step-small :
     (m : Module) (f : Function) (n size align : ℕ) (index : Placed) (indices : List Placed) → HasSmallTypes m → IsLaidOut m n size align → size ≤ 2 ^ 40
     → ((inner : ℕ) → IsSized m inner → steps_fault m f (type_of m inner) indices ≡ None → (more : List AddressStep)
-      → inner_steps m (type_of m inner) indices ≡ Some more → All IsSmallStep more)
+    → inner_steps m (type_of m inner) indices ≡ Some more → All IsSmallStep more)
     → (type : IrType) → type_of m n ≡ type → steps_fault m f type (index ∷ indices) ≡ None → (steps : List AddressStep)
     → inner_steps m type (index ∷ indices) ≡ Some steps → All IsSmallStep steps
 unfolding inner_steps
@@ -165,7 +163,7 @@ unfolding inner_steps
 inner-small m f [] small n sized none steps found =
     let same : [] ≡ steps = cc in
     subst (λ all. All IsSmallStep all) same (λ k d lt. absurd (omega (arith, lt)))
-inner-small m f (index ∷ indices) small n (size , align , known) none steps found =
+inner-small m f (index ∷ indices) small n (size, align, known) none steps found =
     let under = small.small n in
     let low : size ≤ 2 ^ 40 = omega (arith, under, ap layout_size known) in
     step-small m f n size align index indices small (laid-out m n size align small known) low
@@ -174,15 +172,15 @@ inner-small m f (index ∷ indices) small n (size , align , known) none steps fo
 -- ---- addresses
 
 known-of : (layout : TypeLayout) → is_known layout ≡ true → (size align : ℕ) × (layout ≡ Known size align)
-known-of (Known size align) is = (size , align , refl)
+known-of (Known size align) is = (size, align, refl)
 known-of NoSize is = cc
 known-of Loop is = cc
 
 sized-of : (m : Module) (n : ℕ) → HasSmallTypes m → has_size_of m.types m.fields n ≡ true → IsSized m n
 sized-of m n small is =
     let exact = exact_layouts m.types m.fields in
-    let (size , align , known) = known-of (layout_at exact n) is in
-    (_ , align , ap (λ layouts. layout_at layouts n) small.layouts ∙ layout_at-capped exact n ∙ ap capped known)
+    let (size, align, known) = known-of (layout_at exact n) is in
+    (_, align, ap (λ layouts. layout_at layouts n) small.layouts ∙ layout_at-capped exact n ∙ ap capped known)
 
 pub address-small :
     (m : Module) (f : Function) (place : Place) (ty : ℕ) (base : Placed) (indices : List Placed) → HasSmallTypes m

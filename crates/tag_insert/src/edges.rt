@@ -53,8 +53,8 @@ fn phis_at(f: &Function, block: u32) -> &[Inst]
     }
 }
 
-#[tactic(auto, unfolding(mi_code::specs::EdgeMoves::phi_moves))]
 /// The moves of phis in order, if control comes from a block.
+#[tactic(auto, unfolding(mi_code::specs::EdgeMoves::phi_moves))]
 fn phi_moves(alloc: Global, f: &Function, from: u32, phis: &[Inst]) -> Result<MoveList, OutOfMemory>
     requires few { length f.now.regs < 2 ^ 30 }
     requires small { All IsSmallInst phis.now }
