@@ -1,0 +1,3 @@
+pub mod Always
+pub mod NeverStuck
+pub mod UntilFull
