@@ -1,4 +1,5 @@
 pub mod BirthPlaces
+pub mod BlockPlaces
 pub mod GlobalPlacesTold
 pub mod Owners
 pub mod StoryLaws

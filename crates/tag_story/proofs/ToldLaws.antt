@@ -9,7 +9,7 @@ use Rattle.ir_meaning.specs.Births.{Region, Globals, Stack, Heap}
 use Rattle.ir_meaning.specs.State.{News, Born, Died}
 use Rattle.tag_story.specs.Story.{StorySetting, Placed, StoryBirth, Story, no_story}
 use Rattle.tag_story.specs.Telling.{globals_told, lowest, stack_size, frame_at, block_at, block_by, block_told, place_of_block, freed_by, death_by, death_told, birth_told, told, on_told, all_told}
-use Rattle.tag_story.specs.StoryFacts.{HasRoom, IsNextNews, IsLaidOut}
+use Rattle.tag_story.specs.StoryFacts.{HasRoom, IsNextNews, AreNextNews, IsLaidOut}
 use Rattle.tag_story.proofs.BirthPlaces.{block-place}
 use Rattle.tag_story.proofs.StoryLaws.{born-laid, block-new, frame-new, frame-died, block-died}
 use Rattle.tag_story.proofs.GlobalPlacesTold.{placed_globals, globals-new}
@@ -68,6 +68,16 @@ told-laid e w v (Born number region task chain sizes) room laid next is = birth-
 told-laid e w v (Died number task chain) room laid next is =
     let same : death_told e w number task chain (slice_get w.births number) ≡ v = cc in
     subst (IsLaidOut e) same (death-laid e w number task chain (slice_get w.births number) laid)
+
+-- and so do births and deaths in order
+pub all-laid : (e : StorySetting) (w v : Story) (news : List News) → HasRoom e → IsLaidOut e w → AreNextNews e w news → all_told e w news ≡ Ok v → IsLaidOut e v
+unfolding all_told
+all-laid e w v [] room laid next is = let same : w ≡ v = cc in subst (IsLaidOut e) same laid
+all-laid e w v (news ∷ later) room laid next is = by_told (told e w news) refl (λ u there. all-laid e u v later room (told-laid e w u news room laid next.0 there) (next.1 u there)) is
+  where
+    by_told : (r : Result Story Full) → told e w news ≡ r → ((u : Story) → told e w news ≡ Ok u → all_told e u later ≡ Ok v → IsLaidOut e v) → on_told r (λ u. all_told e u later) ≡ Ok v → IsLaidOut e v
+    by_told (Ok u) there rest h = rest u there h
+    by_told (Err full) there rest h = absurd cc
 
 -- the story before anything is born
 pub no_story-laid : (e : StorySetting) → IsLaidOut e no_story

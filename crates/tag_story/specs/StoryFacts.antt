@@ -1,12 +1,12 @@
 -- What holds of every story: its objects are aligned, in their ranges and apart, tags are in their ranges, and the living
 -- frames of a task follow each other down from its stack's end. Laws of this project's definitions.
-use Rattle.std.specs.Prelude.{◌≡◌, ℕ, ◌+◌, ◌*◌, ◌%◌, ◌^◌, ◌<◌, ◌≤◌, ◌⊎◌, true, List, [], ◌∷◌, slice_get, Some}
+use Rattle.std.specs.Prelude.{◌≡◌, ℕ, ◌+◌, ◌*◌, ◌%◌, ◌^◌, ◌<◌, ◌≤◌, ◌⊎◌, true, List, [], ◌∷◌, slice_get, Some, Ok}
 use Rattle.hw_base.specs.AddressMap.{rounded_size}
 use Rattle.global_tags.specs.GlobalPlaces.{variables_at, variables_size}
 use Rattle.ir_meaning.specs.Births.{Region, Globals, Stack, Heap, is_living}
 use Rattle.ir_meaning.specs.State.{News, Born, Died}
 use Rattle.tag_story.specs.Story.{StorySetting, Placed, StoryBirth, OpenFrame, FreedBlock, Story}
-use Rattle.tag_story.specs.Telling.{stack_end}
+use Rattle.tag_story.specs.Telling.{stack_end, told}
 
 -- ---- the setting
 
@@ -33,6 +33,11 @@ IsNextNews e w (Born number Globals task chain sizes) = w.births ≡ []
 IsNextNews e w (Born number (Stack func) task chain sizes) = task < e.places.most_tasks
 IsNextNews e w (Born number Heap task chain sizes) = Unit {0}
 IsNextNews e w (Died number task chain) = Unit {0}
+
+-- the same of births and deaths in order, each after those before it
+abbrev pub AreNextNews : StorySetting → Story → List News → Type 0
+AreNextNews e w [] = Unit {0}
+AreNextNews e w (news ∷ later) = IsNextNews e w news × ((v : Story) → told e w news ≡ Ok v → AreNextNews e v later)
 
 -- ---- objects
 

@@ -9,6 +9,8 @@ mod judgement;
 mod laws;
 
 pub use examples::judged_violations;
-pub use further_examples::{judged_frees, judged_reads};
+pub use further_examples::{full_stories, judged_frees, judged_reads, judged_writes};
 pub use judgement::{Coincidence, Judgement, Refusing, Short};
-pub use laws::{granules_have_one_owner, stories_are_laid_out, stories_go_on};
+pub use laws::{
+    a_block_has_the_least_place, granules_have_one_owner, stories_are_laid_out, stories_go_on,
+};

@@ -25,3 +25,11 @@ returns-clause-past_the_heap c = refl
 pub returns-clause-equal_tag_and_short_granule : goal.returns-clause-equal_tag_and_short_granule
 unfolding shown_judgement
 returns-clause-equal_tag_and_short_granule c = refl
+
+pub returns-clause-returned : goal.returns-clause-returned
+unfolding shown_judgement
+returns-clause-returned c = refl
+
+pub returns-clause-in_a_hole : goal.returns-clause-in_a_hole
+unfolding shown_judgement
+returns-clause-in_a_hole c = refl
