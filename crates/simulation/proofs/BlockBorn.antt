@@ -27,7 +27,8 @@ use Rattle.simulation.proofs.BirthRelated.{ObjectsRelated, birth-related}
 use Rattle.simulation.proofs.FreshMemory.{with_all_fresh}
 use Rattle.simulation.proofs.MappedEnds.{fresh-ends}
 use Rattle.simulation.proofs.MappedRegions.{heap-mapped, heap-past}
-use Rattle.simulation.proofs.TablesKept.{ChainsStay, StayBut, each-map, block-kept, freed-kept, frame-kept, ended-kept}
+use Rattle.simulation.proofs.TablesKept.{StayBut, each-map, block-kept, freed-kept, frame-kept, ended-kept}
+use Rattle.simulation.specs.BirthsAndDeaths.{ChainsStay}
 use Rattle.simulation.specs.Parts.{IsChain, IsBlockOf, HasBlocks, IsFreedOf, AreEach, IsFrameOf, AreOpen, IsEndedOf}
 use Rattle.simulation.specs.Relation.{IsSetting, HeapRelated, StacksRelated, SharedRelated, story_setting}
 

@@ -35,7 +35,8 @@ use Rattle.simulation.proofs.BlockBorn.{objects-of}
 use Rattle.simulation.proofs.DeathRelated.{length-changed, tag-before, death-related}
 use Rattle.simulation.proofs.FreshMemory.{some-byte, get-replicated}
 use Rattle.simulation.proofs.MappedRegions.{heap-mapped}
-use Rattle.simulation.proofs.TablesKept.{ChainsStay, StayBut, each-map, each-take, take-again, changed-other, block-kept, freed-kept, frame-kept, ended-kept}
+use Rattle.simulation.proofs.TablesKept.{StayBut, each-map, each-take, take-again, changed-other, block-kept, freed-kept, frame-kept, ended-kept}
+use Rattle.simulation.specs.BirthsAndDeaths.{ChainsStay}
 use Rattle.simulation.specs.Parts.{IsChain, IsBlockOf, HasBlocks, IsFreedOf, AreInHeap, freed_by_task, AreEach, IsFrameOf, frames_of_task, IsEndedOf, ended_by_task}
 use Rattle.simulation.specs.Relation.{IsSetting, HeapRelated, SharedRelated, story_setting}
 

@@ -5,7 +5,8 @@ use Rattle.dbg_sites.specs.ChainTable.{ChainEntry, IsChainTable}
 use Rattle.ir_machine.specs.State.{MachineSetting, MachineShared}
 use Rattle.tag_story.specs.Story.{StoryBirth}
 use Rattle.tag_story.specs.ToldRun.{ToldShared}
-use Rattle.simulation.proofs.TablesKept.{ChainsStay, StayBut, each-map, block-kept, freed-kept, frame-kept, ended-kept}
+use Rattle.simulation.proofs.TablesKept.{StayBut, each-map, block-kept, freed-kept, frame-kept, ended-kept}
+use Rattle.simulation.specs.BirthsAndDeaths.{ChainsStay}
 use Rattle.simulation.specs.Parts.{IsFreedOf, IsFrameOf, IsEndedOf}
 use Rattle.simulation.specs.Relation.{SharedRelated}
 

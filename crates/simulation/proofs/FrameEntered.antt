@@ -27,7 +27,7 @@ use Rattle.simulation.proofs.FreshMemory.{with_all_fresh, variables-fresh}
 use Rattle.ir_lib.specs.Strings.{mapped_end}
 use Rattle.simulation.proofs.MappedEnds.{all-ends}
 use Rattle.simulation.proofs.MappedRegions.{stack-mapped, stack-past}
-use Rattle.simulation.proofs.TablesKept.{ChainsStay}
+use Rattle.simulation.specs.BirthsAndDeaths.{ChainsStay}
 use Rattle.simulation.specs.Parts.{IsChain, HasBlocks, AreEach, IsFrameOf, AreOpen, frames_of_task, IsEndedOf, ended_by_task}
 use Rattle.simulation.specs.Relation.{IsSetting, StacksRelated, SharedRelated, story_setting}
 

@@ -30,7 +30,8 @@ use Rattle.simulation.proofs.BlockFreed.{plain-inside, plain-outside}
 use Rattle.simulation.proofs.DeathRelated.{length-changed, tag-before, death-related}
 use Rattle.simulation.proofs.FrameLists.{filter-first, filter-out, filter-once, is_other, own-left, others-left, variables-sizes, variables-cover}
 use Rattle.simulation.proofs.MappedRegions.{stack-mapped}
-use Rattle.simulation.proofs.TablesKept.{ChainsStay, StayBut, each-map, each-map_in, each-take, take-again, changed-other, changed-here, block-kept, freed-kept, frame-kept, ended-kept}
+use Rattle.simulation.proofs.TablesKept.{StayBut, each-map, each-map_in, each-take, take-again, changed-other, changed-here, block-kept, freed-kept, frame-kept, ended-kept}
+use Rattle.simulation.specs.BirthsAndDeaths.{ChainsStay}
 use Rattle.simulation.specs.Parts.{IsChain, HasBlocks, IsFreedOf, AreInHeap, freed_by_task, AreEach, IsFrameOf, frames_of_task, IsEndedOf, ended_by_task}
 use Rattle.simulation.specs.Relation.{IsSetting, SharedRelated, story_setting}
 

@@ -1,4 +1,5 @@
 pub mod BirthLists
+pub mod BothSidesLive
 pub mod BirthOwners
 pub mod BirthRelated
 pub mod BlockBorn

@@ -11,14 +11,11 @@ use Rattle.stack_tags.specs.declared.frame_record.FrameRecord.{FrameRecord}
 use Rattle.tag_alloc.specs.declared.blocks.Block.{Block}
 use Rattle.tag_alloc.specs.declared.blocks.Freed.{Freed}
 use Rattle.tag_story.specs.Story.{StoryBirth, OpenFrame, FreedBlock, EndedFrame}
-use Rattle.simulation.specs.Parts.{IsChain, IsBlockOf, IsFreedOf, AreEach, IsFrameOf, IsEndedOf}
+use Rattle.simulation.specs.BirthsAndDeaths.{ChainsStay}
+use Rattle.simulation.specs.Parts.{IsBlockOf, IsFreedOf, AreEach, IsFrameOf, IsEndedOf}
 use Rattle.std.proofs.Common.{arith}
 
 -- ---- chains
-
--- chains keep their numbers
-abbrev pub ChainsStay : (table after : List ChainEntry) → Type 0
-ChainsStay table after = (number : ℕ) (chain : List Site) → IsChain table number chain → IsChain after number chain
 
 pub pushed-stay : (table : List ChainEntry) (rest : ℕ) (site : Site) → IsChainTable table → ChainsStay table (pushed table rest site).table
 pushed-stay table rest site is number chain h =

@@ -1,3 +1,4 @@
+pub mod BirthsAndDeaths
 pub mod Checks
 pub mod Images
 pub mod Parts

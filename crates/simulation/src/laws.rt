@@ -1,24 +1,32 @@
-ghost use Rattle.std.specs.Prelude.{◌≡◌, ◌≢◌, ℕ, true, List, None, Option, Ok, Err, length, map, option_map};
+ghost use Rattle.std.specs.Prelude.{◌≡◌, ◌≢◌, ℕ, ◌<◌, true, List, [], ◌∷◌, None, Some, Option, Ok, Err, length, map, option_map, slice_get};
+ghost use Rattle.dbg_sites.specs.ChainTable.{ChainEntry, IsChainTable};
 ghost use Rattle.hw_base.specs.declared.accesses.Access.{Access};
 ghost use Rattle.hw_base.specs.declared.accesses.Access.TheVariants.{Free, Write};
 ghost use Rattle.hw_base.specs.declared.pointers.Base.{Base};
 ghost use Rattle.hw_base.specs.TaggedAddress.{address_of};
+ghost use Rattle.hw_base.specs.declared.pointers.Site.{Site};
+ghost use Rattle.ir_machine.specs.CallSteps.{with_variables};
 ghost use Rattle.ir_machine.specs.State.{MachineSetting, MachineShared};
 ghost use Rattle.ir_machine.specs.declared.found.Found.TheVariants.{Block, Memory};
 ghost use Rattle.ir_meaning.specs.AccessRule.{Fine, WritesConstant, access_answer};
-ghost use Rattle.ir_meaning.specs.Births.{Birth, bytes_at};
-ghost use Rattle.ir_meaning.specs.State.{News};
+ghost use Rattle.ir_meaning.specs.Births.{Birth, Heap, Stack, bytes_at};
+ghost use Rattle.ir_meaning.specs.State.{Born, Died, News};
 ghost use Rattle.ir_meaning.specs.Values.{SourceByte, Value};
 ghost use Rattle.simulation.specs.Writes.{AreKnown, put_memory, put_told};
+ghost use Rattle.simulation.specs.BirthsAndDeaths.{AreBorn, ChainsStay, block_born, block_died, frame_left, told_born, told_died};
 ghost use Rattle.simulation.specs.Checks.{FindsJudged, IsPassed, lies_inside};
 ghost use Rattle.simulation.specs.Images.{Stays};
-ghost use Rattle.simulation.specs.Parts.{AreTold, HasRegisters, IsKnownValue};
+ghost use Rattle.simulation.specs.Parts.{AreTold, HasRegisters, IsChain, IsKnownValue};
 ghost use Rattle.simulation.specs.Relation.{IsSetting, SharedRelated, story_setting};
+ghost use Rattle.stack_tags.specs.FrameSteps.{entered, left};
+ghost use Rattle.stack_tags.specs.Frames.{LivingFrame, TaskFrames};
 ghost use Rattle.tag_alloc.specs.HeapBlocks.{free_mismatch};
+ghost use Rattle.tag_alloc.specs.HeapSteps.{after_death, allocated};
+ghost use Rattle.tag_alloc.specs.declared.blocks.Block.{Block as HeapBlock};
 ghost use Rattle.tag_story.specs.Judging.{access_judged, free_judged, refusing};
 ghost use Rattle.tag_story.specs.Story.{Story, StoryBirth, StorySetting, byte_image, number_of, value_image};
 ghost use Rattle.tag_story.specs.StoryFacts.{IsLaidOut};
-ghost use Rattle.tag_story.specs.Telling.{all_told};
+ghost use Rattle.tag_story.specs.Telling.{all_told, told};
 ghost use Rattle.tag_story.specs.ToldRun.{ToldShared};
 ghost use Rattle.tbi_memory.specs.AddressSpace.{check, read, with_bytes, written};
 ghost use Rattle.tbi_memory.specs.declared.mem_fault.MemFault.TheVariants.{ReadOnly};
@@ -31,6 +39,44 @@ pub fn images_stay()
         → value_image after value ≡ value_image before value }
     ensures registers { (before after : List StoryBirth) (values : List (Option Value)) (numbers : List ℕ)
         → Stays before after → HasRegisters before values numbers → HasRegisters after values numbers }
+{}
+
+/// A birth keeps what all tasks share related: of a block, with its least place and its tag, and of the variables of a frame, below
+/// its task's newest one. The source's objects are zero, and so is the machine's memory there. Or both sides are full, with the
+/// same numbers. A table of chains that knows all that it knew keeps it as well, so that a birth's chain may be new. The function
+/// does nothing when it runs.
+pub fn births_keep_the_relation()
+    ensures chains { (setting : MachineSetting) (t : ToldShared) (m : MachineShared) (table : List ChainEntry)
+        → ChainsStay m.chains table → IsChainTable table → SharedRelated setting t m → SharedRelated setting t (record m { chains = table }) }
+    ensures blocks { (setting : MachineSetting) (t : ToldShared) (m : MachineShared) (task size number : ℕ) (chain : List Site)
+        → IsSetting setting → SharedRelated setting t m → IsChain m.chains number chain
+        → AreBorn (λ story after. SharedRelated setting (told_born t Heap task chain (size ∷ []) story) (block_born m after))
+        (told (story_setting setting) t.story (Born (length t.source.births) Heap task chain (size ∷ [])))
+        (allocated m.heap m.memory (setting.word m.drawn) size m.births number) }
+    ensures frames { (setting : MachineSetting) (t : ToldShared) (m : MachineShared) (task func number : ℕ) (chain : List Site) (sizes : List ℕ)
+        (frames : TaskFrames)
+        → IsSetting setting → SharedRelated setting t m → IsChain m.chains number chain
+        → slice_get m.stacks.tasks task ≡ Some frames → task < setting.places.most_tasks
+        → AreBorn (λ story after. SharedRelated setting (told_born t (Stack func) task chain sizes story) (with_variables m after))
+        (told (story_setting setting) t.story (Born (length t.source.births) (Stack func) task chain sizes))
+        (entered m.stacks m.memory task func (setting.word m.drawn) sizes m.births number) }
+{}
+
+/// A death keeps what all tasks share related: of a living block, whose memory has a free tag from then on, and of a task's newest
+/// frame, whose memory has the tag 0. Both sides remember what died, as much of it as a task remembers at all. The function does
+/// nothing when it runs.
+pub fn deaths_keep_the_relation()
+    ensures blocks { (setting : MachineSetting) (t : ToldShared) (m : MachineShared) (task number i : ℕ) (chain : List Site) (block : HeapBlock)
+        → IsSetting setting → SharedRelated setting t m → IsChain m.chains number chain → slice_get m.heap.living i ≡ Some block
+        → (story : Story) × (told (story_setting setting) t.story (Died block.birth task chain) ≡ Ok story)
+        × SharedRelated setting (told_died t block.birth task chain story)
+        (block_died m (after_death m.heap m.memory (setting.word m.drawn) task number block)) }
+    ensures frames { (setting : MachineSetting) (t : ToldShared) (m : MachineShared) (task number : ℕ) (chain : List Site) (frames : TaskFrames)
+        (newest : LivingFrame) (older : List LivingFrame)
+        → IsSetting setting → SharedRelated setting t m → IsChain m.chains number chain
+        → slice_get m.stacks.tasks task ≡ Some frames → frames.living ≡ newest ∷ older
+        → (story : Story) × (told (story_setting setting) t.story (Died newest.frame.birth task chain) ≡ Ok story)
+        × SharedRelated setting (told_died t newest.frame.birth task chain story) (frame_left m (left m.stacks m.memory task number)) }
 {}
 
 /// In related states the checks of the machine find what the story says, for every number and size: nothing if the story says

@@ -6,6 +6,7 @@
 mod laws;
 
 pub use laws::{
-    checks_find_what_the_story_says, fine_accesses_read_the_images, images_stay,
-    no_fine_access_is_refused, writes_keep_the_relation,
+    births_keep_the_relation, checks_find_what_the_story_says, deaths_keep_the_relation,
+    fine_accesses_read_the_images, images_stay, no_fine_access_is_refused,
+    writes_keep_the_relation,
 };

@@ -32,7 +32,8 @@ use Rattle.simulation.proofs.BlockSpans.{place-same}
 use Rattle.simulation.proofs.Images.{stays-born}
 use Rattle.step_simulation.proofs.LibraryParts.{shared-like, gives_to-follows}
 use Rattle.step_simulation.proofs.PlainSteps.{FollowsIn, IsBeforeNext, own_site, others-on}
-use Rattle.simulation.proofs.TablesKept.{ChainsStay, pushed-stay}
+use Rattle.simulation.proofs.TablesKept.{pushed-stay}
+use Rattle.simulation.specs.BirthsAndDeaths.{ChainsStay}
 use Rattle.step_simulation.specs.Following.{KeepsOthersOf, Follows}
 use Rattle.simulation.specs.Parts.{IsChain, IsBorn}
 use Rattle.simulation.specs.Relation.{IsSetting, SharedRelated, SeenLike, story_setting}

@@ -51,7 +51,8 @@ use Rattle.simulation.proofs.Images.{stays-born}
 use Rattle.step_simulation.proofs.LibraryParts.{caller-stays, callers-stay}
 use Rattle.step_simulation.proofs.NewestFrame.{task-frames}
 use Rattle.step_simulation.proofs.PlainSteps.{FollowsIn, own_site, same-function, traps-follows, named-follows}
-use Rattle.simulation.proofs.TablesKept.{ChainsStay, StayBut, each-map, each-length, block-kept, freed-kept, frame-kept, ended-kept}
+use Rattle.simulation.proofs.TablesKept.{StayBut, each-map, each-length, block-kept, freed-kept, frame-kept, ended-kept}
+use Rattle.simulation.specs.BirthsAndDeaths.{ChainsStay}
 use Rattle.step_simulation.specs.Following.{Follows}
 use Rattle.simulation.specs.Images.{Stays}
 use Rattle.simulation.specs.Parts.{IsChain, IsBorn, IsBlockOf, IsFreedOf, AreEach, IsFrameOf, IsEndedOf, AreStarted, frames_of_task}

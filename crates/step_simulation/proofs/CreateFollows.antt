@@ -46,7 +46,7 @@ use Rattle.simulation.proofs.Images.{number-stays, registers-stay}
 use Rattle.step_simulation.proofs.LibraryParts.{variables-stay, callers-stay, gives_to-follows, with_pointer-is}
 use Rattle.step_simulation.proofs.PlainSteps.{FollowsIn, IsBeforeNext, IsNumberOf, own_site, moved-related, named-follows, value-follows}
 use Rattle.step_simulation.proofs.RegisterImages.{register-set}
-use Rattle.simulation.proofs.TablesKept.{ChainsStay}
+use Rattle.simulation.specs.BirthsAndDeaths.{ChainsStay}
 use Rattle.step_simulation.proofs.TaskStarted.{no-frames, task-related, task-tables, HasEntered, Enters, goes, full, task-entered}
 use Rattle.simulation.proofs.WriteAllowed.{fine-written}
 use Rattle.step_simulation.proofs.WritesFollow.{data-known, data-image, told_stored, numbers_stored, stored-like, fine-asked, constant-asked}

@@ -39,7 +39,7 @@ use Rattle.simulation.proofs.Images.{stays-died}
 use Rattle.step_simulation.proofs.LibraryParts.{shared-like}
 use Rattle.simulation.proofs.ObjectPlaces.{IsPlacedAs, placed-as, placed-there}
 use Rattle.step_simulation.proofs.PlainSteps.{FollowsIn, IsBeforeNext, own_site, others-on, goes_on-follows}
-use Rattle.simulation.proofs.TablesKept.{ChainsStay}
+use Rattle.simulation.specs.BirthsAndDeaths.{ChainsStay}
 use Rattle.simulation.specs.Checks.{FindsJudged}
 use Rattle.step_simulation.specs.Following.{KeepsOthers, Follows}
 use Rattle.simulation.specs.Parts.{IsChain, IsBlockOf}

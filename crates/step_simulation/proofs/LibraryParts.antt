@@ -41,7 +41,8 @@ use Rattle.simulation.proofs.Images.{born-stays, registers-stay}
 use Rattle.step_simulation.proofs.OperandsThere.{operand-of}
 use Rattle.step_simulation.proofs.PlainSteps.{FollowsIn, IsBeforeNext, IsNumberOf, own_site, others-kept, moved-related, gives-follows, integer-known}
 use Rattle.step_simulation.proofs.RegisterImages.{IsSingle, register-set}
-use Rattle.simulation.proofs.TablesKept.{ChainsStay, each-map}
+use Rattle.simulation.proofs.TablesKept.{each-map}
+use Rattle.simulation.specs.BirthsAndDeaths.{ChainsStay}
 use Rattle.simulation.specs.Images.{Stays}
 use Rattle.simulation.specs.Parts.{IsKnownValue, IsKnownBase, frames_of_task, AreStarted}
 use Rattle.step_simulation.specs.RegisterSteps.{IsAt}

@@ -59,7 +59,7 @@ use Rattle.step_simulation.proofs.NewestFrame.{HasNewest, with-birth, newest-fra
 use Rattle.step_simulation.proofs.OperandsThere.{operand-of}
 use Rattle.step_simulation.proofs.PlainSteps.{FollowsIn, own_site, same-function}
 use Rattle.step_simulation.proofs.RegisterImages.{register-set}
-use Rattle.simulation.proofs.TablesKept.{ChainsStay}
+use Rattle.simulation.specs.BirthsAndDeaths.{ChainsStay}
 use Rattle.step_simulation.specs.Following.{KeepsOthers, Follows}
 use Rattle.simulation.specs.Images.{Stays}
 use Rattle.simulation.specs.Parts.{AreStarted}
