@@ -17,7 +17,7 @@ use Rattle.detection.proofs.SameRuns.{tags-alone, still-room}
 use Rattle.detection.proofs.StartFollows.{whole-run-follows}
 use Rattle.detection.proofs.StartRelated.{start-related}
 use Rattle.detection.proofs.StoryRuns.{told-run-source}
-use Rattle.detection.specs.Detection.{told_run_of, source_run_in, judgement_at, IsRunOfSource, Detects, MeetsFault, HasRoomAlways, machine_output, PrintsFirst, with_words}
+use Rattle.detection.specs.Detection.{told_run_of, source_run_in, judgement_at, IsRunOfSource, Detects, MeetsFault, HasRoomAlways, machine_output, PrintsFirst, SameButTags, told_output, with_words}
 use Rattle.detection.specs.FollowingRuns.{printed_in, machine_printed, PrintsBefore, EndsJudged, FollowsRun}
 use Rattle.simulation.specs.Relation.{IsSetting, story_setting}
 
@@ -51,10 +51,27 @@ prints-before reports r h =
     ∙ append-nil (output_of (printed_in h.earlier)) in
     (output_of h.more, ap output_of h.printed ∙ output_of-append (printed_in h.earlier) h.more ∙ ap (λ xs. xs ++ output_of h.more) (sym all ∙ source-output reports))
 
+told-before : (reports : List SourceReport) (r : MachineRun) → PrintsBefore reports r → PrintsFirst (output_of (printed_in reports)) r
+told-before reports r h = subst (λ output. PrintsFirst output r) (sym (source-output reports)) (prints-before reports r h)
+
 module _ (setting : MachineSetting) (r : MachineRun) (going : r ≢ IsStuck) where
   judged-until : (judgement : Judgement) (t : ToldWorld) (reports : List SourceReport) (v : Violation) → EndsJudged setting judgement t v (λ m e. r ≡ Ended m (printed_in reports) e) (r ≢ IsStuck → PrintsBefore reports r) → PrintsFirst (flat_map (λ (report : SourceReport). report.printed) reports) r
   judged-until (Passes coincidence) t reports v h = prints-before reports r (h going)
   judged-until (Refused refused) t reports v h = let (m, raw, same, is, steps) = h in prints-all _ r (all-output reports r (ap machine_printed same))
+
+  told-judged : (judgement : Judgement) (t : ToldWorld) (reports : List SourceReport) (v : Violation) → EndsJudged setting judgement t v (λ m e. r ≡ Ended m (printed_in reports) e) (r ≢ IsStuck → PrintsBefore reports r) → PrintsFirst (output_of (printed_in reports)) r
+  told-judged (Passes coincidence) t reports v h = told-before reports r (h going)
+  told-judged (Refused refused) t reports v h = let (m, raw, same, is, steps) = h in prints-all _ r (ap machine_output same)
+
+  -- what the machine prints first, also where the story is full
+  told-until : (o : ToldRunOutcome) → FollowsRun setting o r → PrintsFirst (told_output o) r
+  told-until (Spent t reports) h = let (m, own, related) = h in prints-all _ r (ap machine_output own)
+  told-until (Ended t reports (AsSource (Exited n))) h = let (m, own, steps) = h in prints-all _ r (ap machine_output own)
+  told-until (Ended t reports (AsSource (Trapped trap task chain))) h = let (m, number, own, known, steps) = h in prints-all _ r (ap machine_output own)
+  told-until (Ended t reports (AsSource (Violated v))) h = told-judged (judgement_at setting t v) t reports v h
+  told-until (Ended t reports (AsSource (Outside reason task chain))) h = told-before reports r (h going)
+  told-until (Ended t reports (IsFull full)) h = let (m, own, steps) = h in prints-all _ r (ap machine_output own)
+  told-until IsStuck h = (machine_output r, refl)
 
   -- what the machine prints first
   run-until : (o : ToldRunOutcome) (run : SourceRun) → FollowsRun setting o r → IsRunOfSource o run → HasRoomAlways o → PrintsFirst (printed_by run) r
@@ -125,6 +142,9 @@ module _ (setting : MachineSetting) (turns : ℕ → ℕ) (bound : ℕ) (is : Is
         outside = λ t reports reason task chain h. let goes = subst IsFollowing h follows in goes not-stuck;
       }
 
+  pub prints-told : PrintsFirst (told_output (told_run_of setting turns bound)) (machine_run setting turns bound)
+  prints-told = told-until setting (machine_run setting turns bound) not-stuck (told_run_of setting turns bound) follows
+
   pub prints-until : HasRoomAlways (told_run_of setting turns bound) → PrintsFirst (printed_by (source_run_in setting turns bound)) (machine_run setting turns bound)
   prints-until room = run-until setting (machine_run setting turns bound) not-stuck (told_run_of setting turns bound) (source_run_in setting turns bound) follows as-source room
 
@@ -159,3 +179,15 @@ with_words-is setting word is =
 pub room-still : (setting : MachineSetting) (word : ℕ → ℕ) (turns : ℕ → ℕ) (bound : ℕ) → HasRoomAlways (told_run_of setting turns bound) → HasRoomAlways (told_run_of (with_words setting word) turns bound)
 room-still setting word turns bound room =
     still-room (told_run_of setting turns bound) (told_run_of (with_words setting word) turns bound) (tags-alone (story_setting setting) word setting.input turns bound) room
+
+-- the source prints the same under other tag words, until its story is full
+same-told : (o r : ToldRunOutcome) → SameButTags o r → told_output r ≡ told_output o
+same-told (Spent t reports) r h = let (u, same, source) = h in ap told_output same
+same-told (Ended t reports ending) r h = let (u, same, source) = h in ap told_output same
+same-told IsStuck r h = ap told_output h
+
+pub prints-told-others : (setting : MachineSetting) (word : ℕ → ℕ) (turns : ℕ → ℕ) (bound : ℕ) → IsSetting setting → PrintsFirst (told_output (told_run_of setting turns bound)) (machine_run (with_words setting word) turns bound)
+prints-told-others setting word turns bound is =
+    subst (λ output. PrintsFirst output (machine_run (with_words setting word) turns bound))
+    (same-told (told_run_of setting turns bound) (told_run_of (with_words setting word) turns bound) (tags-alone (story_setting setting) word setting.input turns bound))
+    (prints-told (with_words setting word) turns bound (with_words-is setting word is))

@@ -142,6 +142,12 @@ HasRoomAlways IsStuck = Unit {0}
 abbrev pub machine_output : MachineRun → List ℕ
 machine_output r = output_of (machine_printed r)
 
+-- what the source printed until its story was full, or to its end
+abbrev pub told_output : ToldRunOutcome → List ℕ
+told_output (Spent t reports) = output_of (printed_in reports)
+told_output (Ended t reports ending) = output_of (printed_in reports)
+told_output IsStuck = []
+
 -- the machine prints this first
 abbrev pub PrintsFirst : List ℕ → MachineRun → Type 0
 PrintsFirst output r = (more : List ℕ) × (machine_output r ≡ output ++ more)

@@ -1,11 +1,11 @@
--- A small module of which the detection theorem speaks: one global, and a write just behind a block of 10 bytes. Its places mean
--- nothing.
+-- Small modules of which the detection theorem speaks: one global, and a write of a byte so many bytes after the start of a block of 10
+-- bytes. Its places mean nothing.
 --
 --     @g = global i32 5
 --
 --     define i32 @main() {
 --       %p = call ptr @malloc(i64 10)
---       %q = getelementptr i8, ptr %p, i64 10
+--       %q = getelementptr i8, ptr %p, i64 OFF
 --       store i8 1, ptr %q
 --       ret i32 0
 --     }
@@ -32,15 +32,15 @@ small_global =
       place = nowhere;
     }
 
-abbrev pub small_insts : List Inst
-small_insts = call_malloc 0 10 ∷ bytes_behind 1 0 10 ∷ store_byte 1 1 ∷ return_zero ∷ []
+abbrev pub small_insts : (off : ℕ) → List Inst
+small_insts off = call_malloc 0 10 ∷ bytes_behind 1 0 off ∷ store_byte 1 1 ∷ return_zero ∷ []
 
-abbrev pub small_main : Function
-small_main = main_function (ptr_type ∷ ptr_type ∷ []) 4 small_insts
+abbrev pub small_main : (off : ℕ) → Function
+small_main off = main_function (ptr_type ∷ ptr_type ∷ []) 4 (small_insts off)
 
-abbrev pub small_program : Module
-small_program = example_module (small_global ∷ []) (small_main ∷ []) 0
+abbrev pub small_program : (off : ℕ) → Module
+small_program off = example_module (small_global ∷ []) (small_main off ∷ []) 0
 
 -- on the program's map with a heap of 64 bytes, with tag words that repeat
-abbrev pub small_setting : List ℕ → MachineSetting
-small_setting tags = program_setting small_program 64 1 (word (Cycle tags)) []
+abbrev pub small_setting : (off : ℕ) → List ℕ → MachineSetting
+small_setting off tags = program_setting (small_program off) 64 1 (word (Cycle tags)) []

@@ -1,6 +1,6 @@
 ghost use Rattle.std.specs.Prelude.{◌≡◌, ℕ, List, []};
 ghost use Rattle.hw_tags.specs.Options.{IsHeapSize};
-ghost use Rattle.hw_tags.specs.TaskRuns.{Ended, run_from, world_step};
+ghost use Rattle.hw_tags.specs.TaskRuns.{Ended, Spent, run_from, world_step};
 ghost use Rattle.hw_tags.specs.Word.{word};
 ghost use Rattle.hw_tags.specs.declared.options.Options.{Options};
 ghost use Rattle.ir_core.specs.Runnable.{IsRunnable};
@@ -10,9 +10,12 @@ ghost use Rattle.ir_machine.specs.Start.{machine_start, shared_at_start};
 ghost use Rattle.ir_machine.specs.State.{MachineSetting, MachineWorld, Reported};
 ghost use Rattle.ir_machine.specs.declared.found.Raw.{Raw};
 ghost use Rattle.ir_meaning.specs.Runs.{printed_by, source_run_of};
-ghost use Rattle.detection.specs.Detection.{Detects, HasRoomAlways, MeetsFault, PrintsFirst, SameButTags, machine_output, program_setting, source_run_in, told_run_of, with_words};
+ghost use Rattle.detection.specs.Detection.{Detects, HasRoomAlways, MeetsFault, PrintsFirst, SameButTags, machine_output, program_setting, source_run_in, told_output, told_run_of, with_words};
 ghost use Rattle.detection.specs.FollowingRuns.{FollowsRun, FollowsWorldStep, told_at_start};
+ghost use Rattle.ir_meaning.specs.State.{SourceReport};
+ghost use Rattle.simulation.specs.Parts.{AreTold};
 ghost use Rattle.simulation.specs.Relation.{IsSetting, SharedRelated, WorldRelated, story_setting};
+ghost use Rattle.tag_story.specs.StoryFacts.{IsLaidOut};
 ghost use Rattle.tag_story.specs.ToldRun.{ToldWorld, told_run, told_run_from, told_start, told_world_step};
 
 /// From related worlds the machine follows the run of the source with its story, under the same turn words, input and bound on
@@ -52,6 +55,14 @@ pub fn modules_have_settings()
         → IsRunnable program → IsSetting (setting_of program options input) }
 {}
 
+/// The story of each run is laid out, in each state that the run comes to: objects have places in their ranges, apart from each other
+/// while they live, and their births, sizes and lives are those of the source. The function does nothing when it runs.
+pub fn stories_of_runs_are_laid_out()
+    ensures { (setting : MachineSetting) (turns : ℕ → ℕ) (bound : ℕ) (t : ToldWorld) (reports : List SourceReport)
+        → IsSetting setting → told_run_of setting turns bound ≡ Spent t reports
+        → IsLaidOut (story_setting setting) t.shared.story × AreTold t.shared.source.births t.shared.story.births }
+{}
+
 /// The detection theorem, for each module that can be run, each input, all tag words and turn words, each bound on steps, each
 /// size of the heap and of the rings. While the source program meets no violation, the run of its instrumented code prints the
 /// same bytes, makes the same steps and ends in the same way. At the first violation it has printed the same, and if the tag
@@ -84,11 +95,14 @@ pub fn tag_words_decide_over_tags_alone()
         → SameButTags (told_run_of setting turns bound) (told_run_of (with_words setting other) turns bound) }
 {}
 
-/// Two runs that differ in their tag words alone print the same until the first violation or until the source leaves the profile,
-/// while the heap and the stacks have room: both print first all that the source program prints until then. The function does
-/// nothing when it runs.
+/// Two runs that differ in their tag words alone print the same until the first violation, until the heap or a stack is full, or until the
+/// source leaves the profile: both print first all that the source program prints until then; while there is room, that is what
+/// the run of the source alone prints. The function does nothing when it runs.
 pub fn tag_words_change_nothing_before_a_violation()
-    ensures { (setting : MachineSetting) (other : ℕ → ℕ) (turns : ℕ → ℕ) (bound : ℕ) → IsSetting setting
+    ensures until_full { (setting : MachineSetting) (other : ℕ → ℕ) (turns : ℕ → ℕ) (bound : ℕ) → IsSetting setting
+        → PrintsFirst (told_output (told_run_of setting turns bound)) (machine_run setting turns bound)
+        × PrintsFirst (told_output (told_run_of setting turns bound)) (machine_run (with_words setting other) turns bound) }
+    ensures with_room { (setting : MachineSetting) (other : ℕ → ℕ) (turns : ℕ → ℕ) (bound : ℕ) → IsSetting setting
         → HasRoomAlways (told_run_of setting turns bound)
         → PrintsFirst (printed_by (source_run_in setting turns bound)) (machine_run setting turns bound)
         × PrintsFirst (printed_by (source_run_in setting turns bound)) (machine_run (with_words setting other) turns bound) }
