@@ -1,3 +1,4 @@
 pub mod Always
 pub mod NeverStuck
+pub mod SmallProgramChecked
 pub mod UntilFull
