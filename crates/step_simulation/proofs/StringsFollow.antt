@@ -64,18 +64,18 @@ whole_or ends later = elim ends [ true ↦ Ok [] | false ↦ later ]
 
 module _ (setting : MachineSetting) (t : ToldSeen) (m : MachineSeen) (is : IsSetting setting) (like : SeenLike setting t m) where
   -- a byte that the rule refuses is what the check finds, if the tag rule refuses it too
-  abbrev FindsByte : (number : ℕ) → Judgement → Result (List ℕ) StringFault → Type 0
+  abbrev pub FindsByte : (number : ℕ) → Judgement → Result (List ℕ) StringFault → Type 0
   FindsByte number (Passes coincidence) r = Unit {0}
   FindsByte number (JudgedRefused refused) r = (found : Mismatch) × (r ≡ Err (record { at = number; found = found })) × (refusing_by found ≡ refused)
 
-  abbrev FindsRefused : Base → (off : ℕ) → AccessAnswer → Result (List ℕ) StringFault → Type 0
+  abbrev pub FindsRefused : Base → (off : ℕ) → AccessAnswer → Result (List ℕ) StringFault → Type 0
   FindsRefused base off Fine r = Unit {0}
   FindsRefused base off (Violates kind) r = FindsByte (number_of t.shared.story.births base off) (access_judged (story_setting setting) t.shared.story t.shared.source.births (number_of t.shared.story.births base off) 1) r
   FindsRefused base off WritesConstant r = ⊥
   FindsRefused base off (IsOutside reason) r = Unit {0}
   FindsRefused base off NoAnswer r = Unit {0}
 
-  abbrev FindsString : Base → StringAnswer → Result (List ℕ) StringFault → Type 0
+  abbrev pub FindsString : Base → StringAnswer → Result (List ℕ) StringFault → Type 0
   FindsString base (Whole ns) r = r ≡ Ok ns
   FindsString base (Refused off refusal) r = FindsRefused base off refusal r
   FindsString base MeetsPiece r = Unit {0}

@@ -7,5 +7,5 @@ mod laws;
 
 pub use laws::{
     atomics_are_followed, loads_are_followed, register_steps_are_followed, steps_are_followed,
-    stores_are_followed,
+    stores_are_followed, strings_are_found,
 };
