@@ -1,6 +1,7 @@
--- The faults of names in a module without the bodies of its functions (LLVM Language Reference, "Identifiers", "Module
--- Structure"). That the list of constructors is refused, and a function's name in a first value, is this project's choice.
-use Rattle.std.specs.Prelude.{ℕ, List, [], ◌∷◌, ◌++◌, map, take, drop, Bool, false, true, not, ◌+◌, nat_lt, if◌then◌else◌, Option, None, Some}
+-- The faults of names in a module, but for those of registers, blocks and callees (LLVM Language Reference, "Identifiers",
+-- "Module Structure"). That the list of constructors is refused, and a function's name in a constant that no task starts
+-- with, is this project's choice.
+use Rattle.std.specs.Prelude.{ℕ, List, [], ◌∷◌, ◌++◌, map, take, drop, Bool, false, true, not, ◌+◌, nat_lt, if◌then◌else◌, slice_index_or, Option, None, Some}
 use Rattle.std.specs.Option.{is_some}
 use Rattle.std.specs.List.{list_all, flat_map}
 use Rattle.std.specs.Char.{is_ascii_digit}
@@ -20,6 +21,7 @@ use Rattle.ir_grammar.specs.declared.spelled.SpelledItem.TheVariants.{Skipped, �
 use Rattle.ir_grammar.specs.Spelled.{Store}
 use Rattle.ir_names.specs.declared.fault.NameFault.{NameFault}
 use Rattle.ir_names.specs.Keys.{behind_sigil, type_key, global_key, item_key, item_keys, first_with, meant}
+use Rattle.ir_names.specs.Starts.{start_marks}
 
 -- this fault at this token
 abbrev pub fault_at : Fault → Token → List NameFault
@@ -120,19 +122,26 @@ abbrev pub type_faults : List ℕ → List (List ℕ) → List SpelledItem → S
 type_faults source keys items (Named token) = fault_if (not (is_some (meant keys items (type_key source token)))) Unknown token
 type_faults source keys items other = []
 
--- the fault at a global's name that means this item: it is there, and no function
-abbrev pub meaning_faults : Token → Option SpelledItem → List NameFault
-meaning_faults token None = fault_at Unknown token
-meaning_faults token (Some (Declare name result first count)) = fault_at Unsupported token
-meaning_faults token (Some (Define name result first count entry blocks)) = fault_at Unsupported token
-meaning_faults token (Some other) = []
+-- the fault at a global's name that means this item, where functions may or may not be named: it isn't there, or it is a
+-- function that may not
+abbrev pub meaning_faults : Token → (may : Bool) → Option SpelledItem → List NameFault
+meaning_faults token may None = fault_at Unknown token
+meaning_faults token may (Some (Declare name result first count)) = fault_if (not may) Unsupported token
+meaning_faults token may (Some (Define name result first count entry blocks)) = fault_if (not may) Unsupported token
+meaning_faults token may (Some other) = []
 
--- the faults at a constant: it is a local, or a global's name that can't stand there
-abbrev pub constant_faults : List ℕ → List (List ℕ) → List SpelledItem → SpelledConstant → List NameFault
-constant_faults source keys items (Local token) = fault_at Unknown token
-constant_faults source keys items (GlobalName token) =
-    fault_if (is_constructor_list (bytes_of source token)) Unsupported token ++ meaning_faults token (meant keys items (global_key source token))
-constant_faults source keys items other = []
+-- the faults at a constant, which may or may not name a function: it is a local, or a global's name that can't stand there
+abbrev pub constant_faults : List ℕ → List (List ℕ) → List SpelledItem → (may : Bool) → SpelledConstant → List NameFault
+constant_faults source keys items may (Local token) = fault_at Unknown token
+constant_faults source keys items may (GlobalName token) =
+    fault_if (is_constructor_list (bytes_of source token)) Unsupported token ++ meaning_faults token may (meant keys items (global_key source token))
+constant_faults source keys items may other = []
+
+-- the faults at constants, from the one with this number on, by the marks of those that may name a function
+abbrev pub constants_faults : List ℕ → List (List ℕ) → List SpelledItem → (marks : List Bool) → ℕ → List SpelledConstant → List NameFault
+constants_faults source keys items marks i [] = []
+constants_faults source keys items marks i (constant ∷ rest) =
+    constant_faults source keys items (slice_index_or marks i false) constant ++ constants_faults source keys items marks (i + 1) rest
 
 -- all faults of names, by the keys of the items
 abbrev pub faults_by : List ℕ → List (List ℕ) → List SpelledItem → Store → List NameFault
@@ -140,7 +149,7 @@ faults_by source keys items store =
     definitions_faults source keys 0 items
     ++ flat_map (declare_faults source store.parameters) items
     ++ flat_map (type_faults source keys items) store.types
-    ++ flat_map (constant_faults source keys items) store.constants
+    ++ constants_faults source keys items (start_marks source keys items store) 0 store.constants
 
 -- all faults of names
 abbrev pub name_faults : List ℕ → List SpelledItem → Store → List NameFault

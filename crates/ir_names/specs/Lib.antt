@@ -6,3 +6,4 @@ pub mod Numbers
 pub mod OneName
 pub mod Places
 pub mod Sets
+pub mod Starts

@@ -1,8 +1,7 @@
 ghost use Rattle.std.specs.Prelude.{◌≡◌, ◌<◌, ◌^◌, ◌+◌, length, map, IfOk};
-ghost use Rattle.std.specs.List.{flat_map};
 ghost use Rattle.ir_names.specs.Keys.{global_key, meant};
 ghost use Rattle.ir_names.specs.First.{first_beside};
-ghost use Rattle.ir_names.specs.Faults.{meaning_faults, constant_faults};
+ghost use Rattle.ir_names.specs.Faults.{meaning_faults, constant_faults, constants_faults};
 ghost use Rattle.ir_names.specs.Meanings.{numbered, number_at, variable};
 
 use crate::fault::{NameFault, beside_fault_if};
@@ -14,36 +13,38 @@ use ir_grammar::{SpelledConstant, SpelledItem};
 use ir_text::is_constructor_list;
 use std::alloc::Global;
 
-/// The first fault, beside that at a global's name that means this item.
+/// The first fault, beside that at a global's name that means this item, where functions may or may not be named.
 fn beside_meaning(
     token: &Token,
+    may: bool,
     item: Option<SpelledItem>,
     first: Option<NameFault>,
 ) -> Option<NameFault>
-    ensures { result ≡ first_beside first (meaning_faults token.now item) }
+    ensures { result ≡ first_beside first (meaning_faults token.now may item) }
 {
     match item {
         None => beside_fault_if(first, true, Fault::Unknown, *token),
         Some(SpelledItem::Declare { .. }) => {
-            beside_fault_if(first, true, Fault::Unsupported, *token)
+            beside_fault_if(first, !may, Fault::Unsupported, *token)
         }
         Some(SpelledItem::Define { .. }) => {
-            beside_fault_if(first, true, Fault::Unsupported, *token)
+            beside_fault_if(first, !may, Fault::Unsupported, *token)
         }
         Some(_) => first,
     }
 }
 
-/// The first fault, beside those at a constant.
+/// The first fault, beside those at a constant, which may or may not name a function.
 fn beside_constant(
     alloc: Global,
     source: &[u8],
     index: &Index,
     items: &[SpelledItem],
+    may: bool,
     constant: &SpelledConstant,
     first: Option<NameFault>,
 ) -> Result<Option<NameFault>, OutOfMemory>
-    ensures { IfOk result (λ f. f ≡ first_beside first (constant_faults source.now index.now items.now constant.now)) }
+    ensures { IfOk result (λ f. f ≡ first_beside first (constant_faults source.now index.now items.now may constant.now)) }
 {
     match constant {
         SpelledConstant::Local(token) => {
@@ -53,27 +54,33 @@ fn beside_constant(
             let key = global_key(alloc, source, token)?;
             let constructors = is_constructor_list(text_of(source, token));
             let refused = beside_fault_if(first, constructors, Fault::Unsupported, *token);
-            Ok(beside_meaning(token, meant(index, items, key.as_slice()), refused))
+            let item = meant(index, items, key.as_slice());
+            Ok(beside_meaning(token, may, item, refused))
         }
         _ => Ok(first),
     }
 }
 
-/// The first fault, beside those at constants.
+/// The first fault, beside those at constants, by the marks of those that may name a function.
 pub(crate) fn beside_constants(
     alloc: Global,
     source: &[u8],
     index: &Index,
     items: &[SpelledItem],
+    marks: &[bool],
     constants: &[SpelledConstant],
     first: Option<NameFault>,
 ) -> Result<Option<NameFault>, OutOfMemory>
-    ensures { IfOk result (λ f. f ≡ first_beside first (flat_map (constant_faults source.now index.now items.now) constants.now)) }
+    ensures { IfOk result (λ f. f ≡ first_beside first (constants_faults source.now index.now items.now marks.now 0 constants.now)) }
 {
+    let _count = constants.len();
     let mut found = first;
+    let mut i: usize = 0;
     let mut rest = constants;
     while let [constant, after @ ..] = rest {
-        found = beside_constant(alloc, source, index, items, constant, found)?;
+        let may = marks.get(i).copied().unwrap_or(false);
+        found = beside_constant(alloc, source, index, items, may, constant, found)?;
+        i += 1;
         rest = after;
     }
     Ok(found)

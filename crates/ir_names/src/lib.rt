@@ -14,6 +14,7 @@ mod laws;
 mod parameters;
 mod references;
 mod resolve;
+mod starts;
 mod types;
 
 pub use counter::is_number;

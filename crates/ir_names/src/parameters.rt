@@ -144,12 +144,12 @@ fn beside_list(
     beside_parameters(alloc, source, &index, parameters, first)
 }
 
-/// The `count` parameters from `first` on, or those of them that are there.
-fn part_of(parameters: &[SpelledParameter], first: usize, count: usize) -> &[SpelledParameter]
-    ensures { result.now ≡ take count (drop first parameters.now) }
+/// The `count` entries from `first` on, or those of them that are there.
+pub(crate) fn part_of<T: Copy>(entries: &[T], first: usize, count: usize) -> &[T]
+    ensures { result.now ≡ take count (drop first entries.now) }
 {
-    let from = first.min(parameters.len());
-    let behind = &parameters[from..];
+    let from = first.min(entries.len());
+    let behind = &entries[from..];
     &behind[..count.min(behind.len())]
 }
 

@@ -12,6 +12,7 @@ use crate::index::Index;
 use crate::keys::item_keys;
 use crate::parameters::beside_declares;
 use crate::references::{References, Resolution};
+use crate::starts::start_marks;
 use crate::types::{beside_types, leads_of};
 use hw_base::OutOfMemory;
 use ir_grammar::{SpelledItem, Spellings};
@@ -38,11 +39,13 @@ fn first_fault(
         found.types.as_slice(),
         declares,
     )?;
+    let marks = start_marks(alloc, source, index, items, found)?;
     beside_constants(
         alloc,
         source,
         index,
         items,
+        marks.as_slice(),
         found.constants.as_slice(),
         types,
     )
@@ -68,8 +71,8 @@ fn references(
     })
 }
 
-/// What the names of a text stand for, and the first fault of a name outside the bodies of its functions: `source` is the text,
-/// `items` are its items in order, below 2^32 of them, and `found` is what was read of them. Two names are one where they stand
+/// What the names of a text stand for, and the first fault of a name but for those of registers, blocks and callees: `source` is
+/// the text, `items` are its items in order, below 2^32 of them, and `found` is what was read of them. Two names are one where they stand
 /// for the same bytes, or write the same number: `%01` is `%1`, and `%"a"` is `%a`. The error is want of memory. A name has a
 /// fault:
 ///
@@ -77,7 +80,8 @@ fn references(
 ///   number, where it is below the counter of the parameters before it;
 /// - `Unknown`, at a type's name that no item defines, at a local in a constant, and at a global in a constant that no item
 ///   defines;
-/// - `Unsupported`, at a function in a constant, and at `llvm.global_ctors`.
+/// - `Unsupported`, at a function in a constant, and at `llvm.global_ctors`. A function may be named in the third argument of a
+///   call of `pthread_create`, which the module declares, also as the base of an address.
 ///
 /// The first is the one whose token begins first, and at one place the one with the lower code. A name that is defined twice
 /// stands for its first definition, and a type's name without a definition for itself.

@@ -1,6 +1,9 @@
 use super::*;
 use ir_core::{Token, Tokens};
-use ir_grammar::{SpelledConstant, SpelledItem, SpelledParameter, SpelledType, Spellings};
+use ir_grammar::{
+    SpelledConstant, SpelledInstruction, SpelledItem, SpelledOperand, SpelledOperation,
+    SpelledParameter, SpelledType, Spellings, TypedOperand,
+};
 use std::alloc::Global;
 use std::process::Abort;
 use std::test::Fail;
@@ -37,6 +40,76 @@ fn add_parameter(draft: &mut Draft, name: Option<Token>) -> Result<(), Fail> {
     Ok(())
 }
 
+/// A call of this function without arguments.
+fn add_call(draft: &mut Draft, name: Token) -> Result<(), Fail> {
+    let first = draft.found.bodies.operands.len();
+    draft.found.bodies.instructions.push(SpelledInstruction {
+        result: None,
+        word: name,
+        operation: SpelledOperation::Call {
+            name,
+            result: 0,
+            first,
+            count: 0,
+        },
+        first: 0,
+        count: 0,
+    })?;
+    Ok(())
+}
+
+/// One more argument of the last call.
+fn add_argument(draft: &mut Draft, value: SpelledOperand) -> Result<(), Fail> {
+    let bodies = &mut draft.found.bodies;
+    bodies.operands.push(TypedOperand { ty: 0, value })?;
+    let Some(call) = bodies.instructions.pop() else {
+        return Err(Fail::from("no call"));
+    };
+    let SpelledOperation::Call {
+        name,
+        result,
+        first,
+        count,
+    } = call.operation
+    else {
+        return Err(Fail::from("no call"));
+    };
+    bodies.instructions.push(SpelledInstruction {
+        operation: SpelledOperation::Call {
+            name,
+            result,
+            first,
+            count: count.saturating_add(1),
+        },
+        ..call
+    })?;
+    Ok(())
+}
+
+/// The constant, as one more argument of the last call.
+fn add_constant_argument(
+    draft: &mut Draft,
+    first: Token,
+    constant: SpelledConstant,
+) -> Result<(), Fail> {
+    let number = draft.found.constants.len();
+    draft.found.constants.push(constant)?;
+    add_argument(draft, SpelledOperand::Constant { first, number })
+}
+
+/// An address from this global on, as one more argument of the last call.
+fn add_address_argument(draft: &mut Draft, token: Token) -> Result<(), Fail> {
+    let base = draft.found.constants.len();
+    draft.found.constants.push(SpelledConstant::Global(token))?;
+    let address = SpelledConstant::Address {
+        of: 0,
+        base,
+        first: 0,
+        count: 0,
+    };
+    add_constant_argument(draft, token, address)
+}
+
 /// An item by this token.
 fn item_of(draft: &Draft, letter: u8, token: Token) -> Result<SpelledItem, Fail> {
     match letter {
@@ -67,7 +140,8 @@ fn item_of(draft: &Draft, letter: u8, token: Token) -> Result<SpelledItem, Fail>
 /// What a token stands for by its letter: `t` an item that names the next type, `g` a global variable, `d` a function
 /// declared without parameters so far, `p` its next parameter by this name and `u` one without a name, `n` a node, `l` a list of
 /// nodes, `x` one of the lists of what is used, `s` a skipped item, `P` the type `ptr` and `T` a type by this name, `L` and `G` a
-/// local and a global in a constant, `Z` the constant `null`.
+/// local and a global in a constant, `Z` the constant `null`, `c` a call by this name without arguments so far, `r` its next
+/// argument, a register, `a` a global as its next argument, `e` an address from that on, and `z` `null`.
 fn add(draft: &mut Draft, letter: u8, token: Token) -> Result<(), Fail> {
     match letter {
         b'p' => add_parameter(draft, Some(token))?,
@@ -77,6 +151,11 @@ fn add(draft: &mut Draft, letter: u8, token: Token) -> Result<(), Fail> {
         b'L' => draft.found.constants.push(SpelledConstant::Local(token))?,
         b'G' => draft.found.constants.push(SpelledConstant::Global(token))?,
         b'Z' => draft.found.constants.push(SpelledConstant::Null)?,
+        b'c' => add_call(draft, token)?,
+        b'r' => add_argument(draft, SpelledOperand::Register(token))?,
+        b'a' => add_constant_argument(draft, token, SpelledConstant::Global(token))?,
+        b'e' => add_address_argument(draft, token)?,
+        b'z' => add_constant_argument(draft, token, SpelledConstant::Null)?,
         _ => {
             let item = item_of(draft, letter, token)?;
             draft.items.push(item)?;
@@ -179,6 +258,88 @@ fn names_without_a_meaning_are_refused(rt: HostRuntime) -> Result<(), Fail> {
         ("@llvm.global_ctors", "g", "Unsupported@0"),
         ("@\"llvm.global_ctors\"", "d", "Unsupported@0"),
         ("%llvm.global_ctors", "t", "|"),
+    ];
+    check_rows(&rt, rt.alloc(), rows.as_slice())
+}
+
+#[test]
+fn functions_are_named_where_tasks_start(rt: HostRuntime) -> Result<(), Fail> {
+    let rows = [
+        (
+            "@pthread_create @w @pthread_create %t null @w null",
+            "ddcrzaz",
+            "| - - -",
+        ),
+        (
+            "@\"pthread_create\" @w @pthread_create %t null @w null",
+            "ddcrzaz",
+            "| - - -",
+        ),
+        (
+            "@pthread_create @w @\"\\70thread_create\" %t null @w null",
+            "ddcrzaz",
+            "| - - -",
+        ),
+        (
+            "@pthread_create @w @pthread_create %t null @w null",
+            "ddcrzez",
+            "| - - - -",
+        ),
+        (
+            "@pthread_create @w @pthread_create %t null @w",
+            "ddcrza",
+            "| - -",
+        ),
+        (
+            "@pthread_create @pthread_create %t null @w null",
+            "dcrzaz",
+            "Unknown@40",
+        ),
+        (
+            "@pthread_create @pthread_create %t null @w null",
+            "dcrzez",
+            "Unknown@40",
+        ),
+        (
+            "@pthread_create @pthread_create %t null @llvm.global_ctors null",
+            "dcrzaz",
+            "Unsupported@40",
+        ),
+        (
+            "@pthread_create @w @pthread_create %t @w null null",
+            "ddcrazz",
+            "Unsupported@38",
+        ),
+        (
+            "@pthread_create @w @pthread_create %t null null @w",
+            "ddcrzza",
+            "Unsupported@48",
+        ),
+        (
+            "@pthread_create @w @pthread_create %t null @w null @w",
+            "ddcrzazG",
+            "Unsupported@51",
+        ),
+        (
+            "@pthread_create @w @pthread_create %t null @w @other %t null @w",
+            "ddcrzacrza",
+            "Unsupported@61",
+        ),
+        (
+            "@other @w @other %t null @w null",
+            "ddcrzaz",
+            "Unsupported@25",
+        ),
+        (
+            "@pthread_create @w @pthread_create %t null @w null",
+            "gdcrzaz",
+            "Unsupported@43",
+        ),
+        (
+            "@w @pthread_create %t null @w null",
+            "dcrzaz",
+            "Unsupported@27",
+        ),
     ];
     check_rows(&rt, rt.alloc(), rows.as_slice())
 }
