@@ -1,8 +1,12 @@
 pub mod Assembled
 pub mod Completed
+pub mod ConstantAddresses
 pub mod GivenTypes
+pub mod KeptTypes
 pub mod OneAnswer
 pub mod Phases
+pub mod ResolvedFunctions
 pub mod ResolvedModule
+pub mod DeclaredFunctions
 pub mod ResolvedTypes
 pub mod Shorts

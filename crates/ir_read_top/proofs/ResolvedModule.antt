@@ -40,11 +40,11 @@ use Rattle.ir_first_values.proofs.TextBytes.{IsByte}
 use Rattle.ir_first_values.proofs.PartsInside.{size}
 use Rattle.ir_first_values.proofs.PiecesInside.{first_value_inside}
 use Rattle.ir_functions.specs.Given.{given_types}
-use Rattle.ir_read_top.specs.Module.{parameter_types, declare_of, declares_of, with_pairs}
+use Rattle.ir_read_top.specs.Module.{parameter_types, declare_of, declares_of, all_pairs}
 use Rattle.ir_read_top.specs.Functions.{numbers_of}
 use Rattle.ir_read_top.specs.Globals.{tables, global_of, globals_of}
 use Rattle.ir_read_top.specs.Texts.{sentence, fields_of, IsAccepted, ReadsText}
-use Rattle.ir_read_top.proofs.ResolvedTypes.{AreBelow, stands_below, IsAmong, AreAmong, types_among, fields_below, pairs_among, all_among}
+use Rattle.ir_read_top.proofs.ResolvedTypes.{AreBelow, stands_below, IsAmong, AreAmong, types_among, fields_below, all_pairs_among, all_among}
 
 -- ---- what was read
 
@@ -119,6 +119,14 @@ pieces_within globals bytes None h = All-nil (IsPartWithin globals bytes)
 pieces_within globals bytes (Some parts) h =
     All-weaker (IsPieceIn globals 0 (0 + bytes)) (IsPartWithin globals bytes) (λ p q. let e : p.at + p.size ≤ 0 + bytes = q.ends in record { inside = omega arith; piece = q.piece }) parts h
 
+-- each name of a variable in an accepted text stands for one that is there
+pub variables_named : (text : List ℕ) (m : Module) → (a : IsAccepted text m) → AreNumbered (length m.globals) (variables_of text a.store.items a.store)
+variables_named text m a =
+    let store : Store = a.store in
+    let variables : length m.globals ≡ length (variables_in store.items) =
+    ap length a.spelled.globals ∙ length-globals (tables text store (numbers_of text store) a.spelled.classes m) store.items in
+    subst (λ k. AreNumbered k (variables_of text store.items store)) (sym variables) (variables_within text (item_keys text store.items) store.items store.constants)
+
 -- what first values are made from is there
 record AreThere (text : List ℕ) (store : Store) (numbers : List ℕ) (m : Module) : Type 0 where
   bytes : All IsByte text
@@ -188,17 +196,15 @@ resolved_module text m bytes a =
     let plain : AreAmong n (length m.fields) (module_types store.types numbers) =
     types_among store.types numbers (length m.fields) below (subst (λ k. All (IsSoundType n k) store.types) (sym fields_same) s.types) in
     let fields_are : List ℕ = fields_of text store in
-    let paired : List IrType = with_pairs store.types fields_are (module_types store.types numbers) store.items a.libs in
-    let among : AreAmong n (length m.fields) paired = pairs_among n (length m.fields) store.types fields_are (module_types store.types numbers) store.items a.libs plain in
+    let paired : List IrType = all_pairs store.types fields_are (module_types store.types numbers) store.items a.libs store.bodies.instructions in
+    let among : AreAmong n (length m.fields) paired =
+    all_pairs_among n (length m.fields) store.types fields_are (module_types store.types numbers) store.items a.libs store.bodies.instructions plain in
     let count : length m.types ≡ length paired + length given_types = ap length spelled.types ∙ length-append paired given_types in
     let same : length paired ≡ n = among.same in
     let there : AreBelow numbers n (length m.types) = λ k h. let g : number_at numbers k < n = below k h in omega arith in
     let all : All (IsAmong (length m.types) (length m.fields)) m.types =
     subst (λ v. All (IsAmong (length v) (length m.fields)) v) (sym spelled.types) (all_among n (length m.fields) paired among) in
-    let variables : length m.globals ≡ length (variables_in store.items) =
-    ap length spelled.globals ∙ length-globals (tables text store numbers spelled.classes m) store.items in
-    let named : AreNumbered (length m.globals) (variables_of text store.items store) =
-    subst (λ k. AreNumbered k (variables_of text store.items store)) (sym variables) (variables_within text (item_keys text store.items) store.items store.constants) in
+    let named : AreNumbered (length m.globals) (variables_of text store.items store) = variables_named text m a in
     record {
       types = All-weaker (IsAmong (length m.types) (length m.fields)) (IsResolvedType m) (resolved_type m) m.types all;
       fields = All-weaker (λ k. k < n) (λ k. k < length m.types) (λ k h. let g : k < n = h in omega arith) m.fields
@@ -215,8 +221,3 @@ resolved_module text m bytes a =
 pub ending_answer : (text : List ℕ) (answer : Result Module ReadError) → ReadsText text answer → IfOk answer HasEndingScopes
 ending_answer text (Ok m) h = h.scopes
 ending_answer text (Err error) h = tt
-
--- the same of what reading a text answers
-pub resolved_answer : (text : List ℕ) (answer : Result Module ReadError) → All IsByte text → ReadsText text answer → IfOk answer IsResolvedOutside
-resolved_answer text (Ok m) bytes h = resolved_module text m bytes h
-resolved_answer text (Err error) bytes h = tt

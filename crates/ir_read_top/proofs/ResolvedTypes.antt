@@ -14,10 +14,13 @@ use Rattle.ir_grammar.specs.declared.spelled.SpelledType.{SpelledType}
 use Rattle.ir_grammar.specs.declared.spelled.SpelledType.TheVariants as spelled
 use Rattle.ir_grammar.specs.declared.spelled.SpelledItem.{SpelledItem}
 use Rattle.ir_grammar.specs.declared.spelled.SpelledItem.TheVariants as items
+use Rattle.ir_grammar.specs.declared.spelled_bodies.SpelledInstruction.{SpelledInstruction}
+use Rattle.ir_grammar.specs.declared.spelled_bodies.SpelledOperation.{SpelledOperation}
+use Rattle.ir_grammar.specs.declared.spelled_bodies.SpelledOperation.TheVariants as operations
 use Rattle.ir_grammar.specs.SoundStore.{IsSoundType}
 use Rattle.ir_functions.specs.Given.{given_types}
 use Rattle.ir_type_numbers.specs.Numbering.{number_at, far_leads, is_no_name, led_to, stands_for, module_type, module_types, module_fields}
-use Rattle.ir_read_top.specs.Module.{pair_width, pair_by, pair_of, set_pair, with_pair, with_pairs}
+use Rattle.ir_read_top.specs.Module.{pair_width, pair_by, pair_of, set_pair, with_pair, with_pairs, with_call, with_calls, all_pairs}
 
 -- what holds of all holds of the one at a place
 pub got_holds : {A : Type 0} (P : A → Type 0) (xs : List A) (i : ℕ) → All P xs → IfSome (slice_get xs i) P
@@ -166,11 +169,44 @@ pair_by_lib n m found fields types (items.Node number) lib h = h
 pair_by_lib n m found fields types (items.NodeList name) lib h = h
 
 -- the types of a module, with pairs
-pub pairs_among : (n m : ℕ) (found : List SpelledType) (fields : List ℕ) (types : List IrType) (rest : List SpelledItem) (functions : List (Option Lib)) → AreAmong n m types → AreAmong n m (with_pairs found fields types rest functions)
+pairs_among : (n m : ℕ) (found : List SpelledType) (fields : List ℕ) (types : List IrType) (rest : List SpelledItem) (functions : List (Option Lib)) → AreAmong n m types → AreAmong n m (with_pairs found fields types rest functions)
 pairs_among n m found fields types [] functions h = h
 pairs_among n m found fields types (item ∷ rest) [] h = h
 pairs_among n m found fields types (item ∷ rest) (lib ∷ functions) h =
     pairs_among n m found fields (with_pair found fields types item lib) rest functions (pair_by_lib n m found fields types item lib h)
+
+call_among : (n m : ℕ) (found : List SpelledType) (fields : List ℕ) (types : List IrType) (o : SpelledOperation) → AreAmong n m types → AreAmong n m (with_call found fields types o)
+call_among n m found fields types (operations.Binary a b) h = h
+call_among n m found fields types (operations.Icmp predicate a b) h = h
+call_among n m found fields types (operations.Cast a to) h = h
+call_among n m found fields types (operations.Freeze a) h = h
+call_among n m found fields types (operations.Select condition a b) h = h
+call_among n m found fields types (operations.Phi ty first count) h = h
+call_among n m found fields types (operations.Alloca ty count alignment) h = h
+call_among n m found fields types (operations.Load ty pointer alignment) h = h
+call_among n m found fields types (operations.Store value pointer alignment) h = h
+call_among n m found fields types (operations.GetElementPtr of base first count) h = h
+call_among n m found fields types operations.Fence h = h
+call_among n m found fields types (operations.AtomicRmw operator pointer value alignment) h = h
+call_among n m found fields types (operations.CmpXchg pointer expected new alignment) h = h
+call_among n m found fields types (operations.ExtractValue of value part) h = h
+call_among n m found fields types (operations.Call name result first count) h =
+    pair_set n m types result (pair_of types fields (slice_get found result)) (width_of n m types fields (slice_get found result) h.each) h
+call_among n m found fields types (operations.Return ty value) h = h
+call_among n m found fields types (operations.Jump block) h = h
+call_among n m found fields types (operations.Branch condition yes_block no_block) h = h
+call_among n m found fields types (operations.Switch value other first count) h = h
+call_among n m found fields types operations.Unreachable h = h
+
+calls_among : (n m : ℕ) (found : List SpelledType) (fields : List ℕ) (types : List IrType) (is : List SpelledInstruction) → AreAmong n m types → AreAmong n m (with_calls found fields types is)
+calls_among n m found fields types [] h = h
+calls_among n m found fields types (i ∷ is) h =
+    calls_among n m found fields (with_call found fields types i.operation) is (call_among n m found fields types i.operation h)
+
+pub all_pairs_among : (n m : ℕ) (found : List SpelledType) (fields : List ℕ) (types : List IrType) (rest : List SpelledItem) (functions : List (Option Lib)) (is : List SpelledInstruction)
+    → AreAmong n m types → AreAmong n m (all_pairs found fields types rest functions is)
+all_pairs_among n m found fields types rest functions is h =
+    calls_among n m found fields (with_pairs found fields types rest functions) is (pairs_among n m found fields types rest functions h)
 
 -- ---- types whose spelling is no part of a text
 

@@ -15,7 +15,7 @@ use Rattle.ir_read_items.proofs.Runs.{each_append}
 use Rattle.ir_body_names.specs.Definitions.{defines_register, result_definitions, instructions_of, block_definitions, parameter_definition, is_void}
 use Rattle.ir_body_names.specs.BodyFaults.{Surroundings}
 use Rattle.ir_body_names.specs.declared.definitions.Definition.{Definition}
-use Rattle.ir_functions.specs.Functions.{Spelled}
+use Rattle.ir_functions.specs.Functions.{Spelled, all_instructions}
 use Rattle.ir_read_top.specs.Functions.{spelled_in, spelled_functions, declare_key, declare_keys, IsShort}
 
 -- how many instructions blocks have
@@ -133,6 +133,22 @@ pub short_functions : (names : Surroundings) (store : Store) (rest : List Spelle
 short_functions names store rest same rows small =
     each_of (AreSmall store) (IsShort names) (spelled_functions store rest)
     (λ f. short_one names store f same (rows_count 0 store.bodies.instructions store.bodies.blocks rows) small)
+    (small_functions store rest)
+
+-- a function has fewer than 2^28 registers, each a parameter or the result of one of its instructions
+small_one : (names : Surroundings) (store : Store) (f : Spelled) → names.bodies ≡ store.bodies → counts store.bodies.blocks ≡ length store.bodies.instructions
+    → size_of store < 2 ^ 28 → AreSmall store f → length f.parameters + length (all_instructions names.bodies.instructions f.blocks) < 2 ^ 28
+small_one names store f same whole small a =
+    let p = a.parameters in
+    let c = a.count in
+    let i = instructions_length names.bodies.instructions f.blocks in
+    omega arith
+
+pub few_instructions : (names : Surroundings) (store : Store) (rest : List SpelledItem) → names.bodies ≡ store.bodies → AreRows 0 store.bodies.instructions store.bodies.blocks → size_of store < 2 ^ 28
+    → Each (λ (f : Spelled). length f.parameters + length (all_instructions names.bodies.instructions f.blocks) < 2 ^ 28) (spelled_functions store rest)
+few_instructions names store rest same rows small =
+    each_of (AreSmall store) (λ (f : Spelled). length f.parameters + length (all_instructions names.bodies.instructions f.blocks) < 2 ^ 28) (spelled_functions store rest)
+    (λ f. small_one names store f same (rows_count 0 store.bodies.instructions store.bodies.blocks rows) small)
     (small_functions store rest)
 
 -- ---- how many functions there are

@@ -13,6 +13,9 @@ use Rattle.ir_grammar.specs.declared.spelled.SpelledType.TheVariants as spelled
 use Rattle.ir_grammar.specs.declared.spelled.SpelledParameter.{SpelledParameter}
 use Rattle.ir_grammar.specs.declared.spelled.SpelledItem.{SpelledItem}
 use Rattle.ir_grammar.specs.declared.spelled.SpelledItem.TheVariants as items
+use Rattle.ir_grammar.specs.declared.spelled_bodies.SpelledInstruction.{SpelledInstruction}
+use Rattle.ir_grammar.specs.declared.spelled_bodies.SpelledOperation.{SpelledOperation}
+use Rattle.ir_grammar.specs.declared.spelled_bodies.SpelledOperation.TheVariants as operations
 use Rattle.ir_type_numbers.specs.Numbering.{number_at}
 
 -- ---- the functions that declares name
@@ -77,6 +80,20 @@ abbrev pub with_pairs : List SpelledType → List ℕ → List IrType → List S
 with_pairs spelled fields types [] libs = types
 with_pairs spelled fields types (item ∷ rest) [] = types
 with_pairs spelled fields types (item ∷ rest) (lib ∷ libs) = with_pairs spelled fields (with_pair spelled fields types item lib) rest libs
+
+-- the result of a call, if it is spelled as such a struct, is a pair: no other function than such an intrinsic returns one
+abbrev pub with_call : List SpelledType → List ℕ → List IrType → SpelledOperation → List IrType
+with_call spelled fields types (operations.Call name result first count) = set_pair types result (pair_of types fields (slice_get spelled result))
+with_call spelled fields types other = types
+
+-- the results of all calls
+abbrev pub with_calls : List SpelledType → List ℕ → List IrType → List SpelledInstruction → List IrType
+with_calls spelled fields types [] = types
+with_calls spelled fields types (i ∷ rest) = with_calls spelled fields (with_call spelled fields types i.operation) rest
+
+-- the results of declares and of calls
+abbrev pub all_pairs : List SpelledType → List ℕ → List IrType → List SpelledItem → List (Option Lib) → List SpelledInstruction → List IrType
+all_pairs spelled fields types items libs instructions = with_calls spelled fields (with_pairs spelled fields types items libs) instructions
 
 -- ---- declares
 

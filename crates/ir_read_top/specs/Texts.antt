@@ -34,7 +34,7 @@ use Rattle.ir_names.specs.First.{first_fault}
 use Rattle.ir_type_numbers.specs.Numbering.{module_types, module_fields}
 use Rattle.ir_functions.specs.Given.{given_types}
 use Rattle.ir_functions.specs.Functions.{function_of}
-use Rattle.ir_read_top.specs.Module.{AreLibsOf, named_marks, with_pairs, declares_of}
+use Rattle.ir_read_top.specs.Module.{AreLibsOf, named_marks, all_pairs, declares_of}
 use Rattle.ir_read_top.specs.Functions.{numbers_of, functions_in, surroundings, all_faults, main_of}
 use Rattle.ir_read_top.specs.Globals.{AreClasses, tables, globals_of}
 
@@ -60,7 +60,8 @@ abbrev pub fields_of : List ℕ → Store → List ℕ
 fields_of text store = module_fields store.fields (numbers_of text store)
 
 abbrev pub types_of : List ℕ → Store → List (Option Lib) → List IrType
-types_of text store libs = with_pairs store.types (fields_of text store) (module_types store.types (numbers_of text store)) store.items libs ++ given_types
+types_of text store libs =
+    all_pairs store.types (fields_of text store) (module_types store.types (numbers_of text store)) store.items libs store.bodies.instructions ++ given_types
 
 -- a module before it has functions
 abbrev pub without_functions : Module → Module

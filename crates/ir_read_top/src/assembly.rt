@@ -7,7 +7,7 @@ ghost use Rattle.ir_core.specs.Resolved.{HasLayouts};
 ghost use Rattle.ir_names.specs.Meanings.{leads_of, variables_of};
 ghost use Rattle.ir_type_numbers.specs.Numbering.{stands_for, module_types, module_fields};
 ghost use Rattle.ir_functions.specs.Given.{given_types};
-ghost use Rattle.ir_read_top.specs.Module.{named_marks, with_pairs, declares_of};
+ghost use Rattle.ir_read_top.specs.Module.{named_marks, all_pairs, declares_of};
 ghost use Rattle.ir_read_top.specs.Globals.{AreClasses, tables, globals_of};
 ghost use Rattle.ir_read_top.specs.Assembly.{HasVariables, IsAssembled, IsOutline};
 
@@ -15,7 +15,7 @@ use crate::declared::declares_of;
 use crate::given::add_given_types;
 use crate::global_variables::globals_of;
 use crate::marks::named_marks;
-use crate::pairs::with_pairs;
+use crate::pairs::{with_calls, with_pairs};
 use dbg_sites::read_meta;
 use hw_base::OutOfMemory;
 use ir_core::{FunctionList, GlobalList, Lib, Module, Tokens, TypeIdList, TypeList, layouts};
@@ -35,7 +35,7 @@ pub(crate) struct Outline {
     pub(crate) classes: Vec<u64>,
 }
 
-/// The types of a module, with pairs as the results of declared intrinsics with overflow, and after them those of values whose
+/// The types of a module, with pairs as the results of intrinsics with overflow, declared and called, and after them those of values whose
 /// type isn't spelled. `libs` has one entry an item.
 fn with_all_pairs(
     alloc: Global,
@@ -44,7 +44,7 @@ fn with_all_pairs(
     libs: &[Option<Lib>],
 ) -> Result<NumberedTypes, OutOfMemory>
     ensures numbers { IfOk result (λ n. n.numbers.items ≡ numbered.numbers.items) }
-    ensures types { IfOk result (λ n. n.types ≡ with_pairs (store_of found.now).types numbered.fields numbered.types (store_of found.now).items libs.now ++ given_types) }
+    ensures types { IfOk result (λ n. n.types ≡ all_pairs (store_of found.now).types numbered.fields numbered.types (store_of found.now).items libs.now (store_of found.now).bodies.instructions ++ given_types) }
     ensures fields { IfOk result (λ n. n.fields ≡ numbered.fields) }
 {
     let mut types = Vec::from_slice(alloc, numbered.types.as_slice())?;
@@ -54,6 +54,12 @@ fn with_all_pairs(
         &mut types,
         &found.items,
         libs,
+    );
+    with_calls(
+        &found.types,
+        numbered.fields.as_slice(),
+        &mut types,
+        &found.bodies.instructions,
     );
     add_given_types(alloc, &mut types)?;
     Ok(NumberedTypes {
@@ -73,7 +79,7 @@ fn types_of(
     requires sound { IsSoundStore (store_of found.now) }
     requires small { size_of (store_of found.now) < 2 ^ 32 }
     ensures numbers { IfOk result (λ n. n.numbers.items ≡ stands_for (store_of found.now).types leads.now) }
-    ensures types { IfOk result (λ n. n.types ≡ with_pairs (store_of found.now).types n.fields (module_types (store_of found.now).types (stands_for (store_of found.now).types leads.now)) (store_of found.now).items libs.now ++ given_types) }
+    ensures types { IfOk result (λ n. n.types ≡ all_pairs (store_of found.now).types n.fields (module_types (store_of found.now).types (stands_for (store_of found.now).types leads.now)) (store_of found.now).items libs.now (store_of found.now).bodies.instructions ++ given_types) }
     ensures fields { IfOk result (λ n. n.fields ≡ module_fields (store_of found.now).fields (stands_for (store_of found.now).types leads.now)) }
 {
     let numbered = number_types(alloc, &found.types, &found.fields, leads)?;

@@ -1,8 +1,8 @@
 ghost use Rattle.std.specs.Prelude.{◌≡◌, take, drop, slice_get};
-ghost use Rattle.ir_read_top.specs.Module.{pair_width, pair_by, pair_of, set_pair, with_pair, with_pairs};
+ghost use Rattle.ir_read_top.specs.Module.{pair_width, pair_by, pair_of, set_pair, with_pair, with_pairs, with_call, with_calls};
 
 use ir_core::{IrType, Lib};
-use ir_grammar::{SpelledItem, SpelledType};
+use ir_grammar::{SpelledInstruction, SpelledItem, SpelledOperation, SpelledType};
 
 /// The width in bits of the first of an integer and an i1.
 fn pair_width(first: Option<IrType>, second: Option<IrType>) -> Option<u32>
@@ -114,5 +114,39 @@ pub(crate) fn with_pairs(
         with_pair(spelled, fields, types, item, *lib);
         rest = after;
         functions = others;
+    }
+}
+
+/// Makes the result of a call a pair, if it is spelled as a literal, unpacked struct of an integer and an i1.
+fn with_call(
+    spelled: &[SpelledType],
+    fields: &[u32],
+    types: &mut [IrType],
+    operation: &SpelledOperation,
+)
+    ensures { types.new ≡ with_call spelled.now fields.now types.old operation.now }
+{
+    match operation {
+        SpelledOperation::Call { result, .. } => {
+            let width = pair_of(types, fields, spelled.get(*result).copied());
+            set_pair(types, *result, width);
+        }
+        _ => {}
+    }
+}
+
+/// Makes the results of calls pairs that are spelled so.
+pub(crate) fn with_calls(
+    spelled: &[SpelledType],
+    fields: &[u32],
+    types: &mut [IrType],
+    instructions: &[SpelledInstruction],
+)
+    ensures { types.new ≡ with_calls spelled.now fields.now types.old instructions.now }
+{
+    let mut rest = instructions;
+    while let [instruction, after @ ..] = rest {
+        with_call(spelled, fields, types, &instruction.operation);
+        rest = after;
     }
 }

@@ -1,6 +1,8 @@
-ghost use Rattle.std.specs.Prelude.{◌≡◌, ◌≤◌, length, IfOk};
+ghost use Rattle.std.specs.Prelude.{◌≡◌, ◌≤◌, length, All, IfOk};
 ghost use Rattle.hw_base.specs.declared.numbers.TheConstants.{MOST_TEXT};
-ghost use Rattle.ir_core.specs.Resolved.{IsResolvedOutside};
+ghost use Rattle.ir_core.specs.declared.ir_module.Declare.{Declare};
+ghost use Rattle.ir_core.specs.Externals.{IsThere};
+ghost use Rattle.ir_core.specs.ResolvedBodies.{IsResolved};
 ghost use Rattle.ir_core.specs.Scopes.{HasEndingScopes};
 ghost use Rattle.ir_core.specs.Tokenisation.{IsTokenisation};
 ghost use Rattle.ir_grammar.specs.Spelled.{store_of};
@@ -130,10 +132,11 @@ fn read_short(alloc: Global, text: &[u8]) -> Result<Module, ReadError>
 /// Unsupported, Unknown or Twice at the first name with a fault, outside the bodies of functions or in one; NoMain at the end of
 /// the text, if no `i32 @main()` or `i32 @main(i32, ptr)` is defined; MetaCycle at the first debug location from which a chain
 /// of scopes or of inlined calls never ends. Line and column count from 1, columns in bytes. Else memory ran out. Each number in
-/// the module names a thing that is there.
+/// the module names a thing that is there, and each declared function is there at its width.
 pub fn read(alloc: Global, text: &[u8]) -> Result<Module, ReadError>
     ensures text { ReadsText text.now result }
-    ensures resolved { IfOk result IsResolvedOutside }
+    ensures resolved { IfOk result IsResolved }
+    ensures known { IfOk result (λ m. All (λ (d : Declare). IsThere d.lib) m.declares) }
     ensures scopes { IfOk result HasEndingScopes }
 {
     if text.len() as u64 > MOST_TEXT {

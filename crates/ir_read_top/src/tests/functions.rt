@@ -104,9 +104,21 @@ fn shown_op(alloc: Global, op: &Op) -> Result<String, Fail> {
             let word = format!(in alloc; "call f{func}")?;
             shown_row(alloc, word.as_str(), args.as_slice())
         }
-        Op::CallLib { declare, args, .. } => {
+        Op::CallLib {
+            declare,
+            args,
+            start,
+            ..
+        } => {
             let word = format!(in alloc; "call d{declare}")?;
-            shown_row(alloc, word.as_str(), args.as_slice())
+            let row = shown_row(alloc, word.as_str(), args.as_slice())?;
+            match start {
+                None => Ok(row),
+                Some(start) => {
+                    let (func, ty, column) = (start.func, start.ty, start.place.column);
+                    Ok(format!(in alloc; "{row} start f{func} #{ty} at {column}")?)
+                }
+            }
         }
         _ => Ok(String::from_str(alloc, ".")?),
     }
@@ -155,6 +167,12 @@ fn a_module_keeps_its_functions(rt: HostRuntime) -> Result<(), Fail> {
             "define void @f() { ret void }\ndefine i32 @main(i32 %n, ptr %p) { call void @g(i32 %n) ret i32 %n }\ndefine void @g(i32 %a) { ret void }\n@v = global i8 0",
             1,
             "call f2 r0; ret r0; | 3 4 | 0,0,2",
+        ),
+        // a task's function is no argument
+        (
+            "declare i32 @pthread_create(ptr, ptr, ptr, ptr)\n@t = global i64 0\ndefine void @f() { ret void }\ndefine i32 @main() {\n  %r = call i32 @pthread_create(ptr @t, ptr null, ptr @w, ptr null)\n  ret i32 %r\n}\ndefine ptr @w(ptr %a) { ret ptr %a }",
+            1,
+            "call d0 g0+0 null null start f2 #12 at 55; ret r0; | 9 | 0,0,2",
         ),
     ];
     for (text, number, want) in rows.as_slice() {

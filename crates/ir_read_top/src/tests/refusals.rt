@@ -124,6 +124,45 @@ fn check_rows(rt: &impl Abort, alloc: Global, rows: &[(&str, &str)]) -> Result<(
 }
 
 #[test]
+fn functions_are_named_only_where_tasks_start(rt: HostRuntime) -> Result<(), Fail> {
+    let rows = [
+        (
+            "declare i32 @pthread_create(ptr, ptr, ptr, ptr)\ndefine i32 @main() {\n  %r = call i32 @pthread_create(ptr null, ptr null, ptr @main, ptr null)\n  ret i32 0\n}",
+            "accepted",
+        ),
+        (
+            "declare i32 @pthread_create(ptr, ptr, ptr, ptr)\ndefine i32 @main() {\n  %r = call i32 @pthread_create(ptr null, ptr null, ptr getelementptr (i8, ptr getelementptr (i8, ptr @main, i64 0), i64 0), ptr null)\n  ret i32 0\n}",
+            "accepted",
+        ),
+        (
+            "declare i32 @pthread_create(ptr, ptr, ptr, ptr)\ndefine i32 @main() {\n  %r = call i32 @pthread_create(ptr null, ptr null, ptr @w, ptr null)\n  ret i32 0\n}",
+            "refused: 5 Unknown at 3:57",
+        ),
+        (
+            "declare i32 @pthread_create(ptr, ptr, ptr, ptr)\ndefine i32 @main() {\n  %r = call i32 @pthread_create(ptr null, ptr null, ptr null, ptr @main)\n  ret i32 0\n}",
+            "refused: 3 Unsupported at 3:67",
+        ),
+        (
+            "declare i32 @pthread_create(ptr, ptr, ptr, ptr)\n@a = global ptr @main\ndefine i32 @main() {\n  %r = call i32 @pthread_create(ptr null, ptr null, ptr @a, ptr null)\n  ret i32 0\n}",
+            "refused: 3 Unsupported at 2:17",
+        ),
+        (
+            "define i32 @pthread_create(ptr %a, ptr %b, ptr %c, ptr %d) {\n  ret i32 0\n}\ndefine i32 @main() {\n  %r = call i32 @pthread_create(ptr null, ptr null, ptr @main, ptr null)\n  ret i32 0\n}",
+            "refused: 3 Unsupported at 5:57",
+        ),
+        (
+            "define void @g(ptr %a, ptr %b, ptr %c) {\n  ret void\n}\ndefine i32 @main() {\n  call void @g(ptr null, ptr null, ptr @g)\n  ret i32 0\n}",
+            "refused: 3 Unsupported at 5:40",
+        ),
+        (
+            "define i32 @main() {\n  %p = alloca ptr\n  store ptr @main, ptr %p\n  ret i32 0\n}",
+            "refused: 3 Unsupported at 3:13",
+        ),
+    ];
+    check_rows(&rt, rt.alloc(), rows.as_slice())
+}
+
+#[test]
 fn names_in_bodies_have_faults_with_their_places(rt: HostRuntime) -> Result<(), Fail> {
     let rows = [
         (

@@ -7,5 +7,5 @@ use Rattle.ir_read_top.proofs.assembly.types_of.Goals as goal
 pub returns-clause-types : goal.returns-clause-types
 returns-clause-types c =
     let store = store_of c.args.found.now in
-    types_from store.types store.items c.args.libs.now c.in_ok-numbered.numbered.fields c.in_ok-numbered.numbered.types (module_types store.types (stands_for store.types c.args.leads.now)) c.with_all_pairs.result
+    types_from store.types store.items c.args.libs.now store.bodies.instructions c.in_ok-numbered.numbered.fields c.in_ok-numbered.numbered.types (module_types store.types (stands_for store.types c.args.leads.now)) c.with_all_pairs.result
     (c.in_ok-numbered.ensures.types ∙ ap (λ v. module_types v (stands_for v c.args.leads.now)) c.deref.ensures.value) c.with_all_pairs.ensures.types c.with_all_pairs.ensures.fields

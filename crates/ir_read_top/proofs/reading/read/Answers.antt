@@ -2,7 +2,9 @@ use Rattle.std.proofs.Common.{All, sym, subst, arith}
 use Rattle.std.proofs.lemmas.List.Elements.{All-from_get_or}
 use Rattle.ir_first_values.proofs.TextBytes.{IsByte}
 use Rattle.ir_read_top.specs.Texts.{IsFaultOf, too_long}
-use Rattle.ir_read_top.proofs.ResolvedModule.{resolved_answer, ending_answer}
+use Rattle.ir_read_top.proofs.DeclaredFunctions.{known_answer}
+use Rattle.ir_read_top.proofs.ResolvedFunctions.{resolved_answer}
+use Rattle.ir_read_top.proofs.ResolvedModule.{ending_answer}
 use Rattle.ir_read_top.proofs.reading.read.Goals as goal
 
 pub returns-then-text-gt-MOST_TEXT-clause-text : goal.returns-then-text-gt-MOST_TEXT-clause-text
@@ -15,3 +17,6 @@ returns-clause-resolved c =
 
 pub returns-clause-scopes : goal.returns-clause-scopes
 returns-clause-scopes c = ending_answer c.args.text.now c.read_short.result c.read_short.ensures
+
+pub returns-clause-known : goal.returns-clause-known
+returns-clause-known c = known_answer c.args.text.now c.read_short.result c.read_short.ensures

@@ -1,0 +1,14 @@
+pub mod Alignments
+pub mod Blocks
+pub mod Calls
+pub mod Leads
+pub mod Lists
+pub mod Numbers
+pub mod Operands
+pub mod Operations
+pub mod Resolved
+pub mod ResolvedInstructions
+pub mod StatedAlignments
+pub mod Types
+pub mod Uses
+pub mod UsesLead
