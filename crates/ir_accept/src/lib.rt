@@ -1,9 +1,12 @@
-//! Texts that are accepted: a text is read into a module, and the rules of types are checked on it. The main call is
-//! `typed_module`; what runs a program relies on it that a text is refused for its first fault alone.
+//! Texts that are accepted: a text is read into a module, and the rules of types and flow and the limits are checked on it. The
+//! main call is `accept`; what runs a program relies on it that a text is refused for its first fault alone, and that an accepted
+//! module has all that a run needs.
 #![tactic(auto)]
 
+mod accepted;
 mod typed;
 
+pub use accepted::accept;
 pub use typed::typed_module;
 
 #[cfg(test)]

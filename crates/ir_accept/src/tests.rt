@@ -1,15 +1,18 @@
-use crate::typed_module;
+use crate::accept;
 use ir_core::ReadError;
 use std::alloc::Global;
 use std::process::Abort;
 use std::test::Fail;
 
 mod calls;
+mod flow;
+mod limits;
 mod operands;
+mod whole_module;
 
 /// The line of a text's refusal, without its LF, or `accepted`.
 fn refused(alloc: Global, text: &[u8]) -> Result<String, Fail> {
-    match typed_module(alloc, text) {
+    match accept(alloc, text) {
         Ok(_) => Ok(String::from_str(alloc, "accepted")?),
         Err(ReadError::Refused(refusal)) => {
             let line = refusal.text(alloc)?;

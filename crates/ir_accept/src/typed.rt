@@ -1,5 +1,5 @@
 ghost use Rattle.std.specs.Prelude.{◌≡◌, IfOk};
-ghost use Rattle.ir_core.specs.Resolved.{IsResolvedOutside};
+ghost use Rattle.ir_core.specs.ResolvedBodies.{IsResolved};
 ghost use Rattle.ir_core.specs.Scopes.{HasEndingScopes};
 ghost use Rattle.ir_accept.specs.Typed.{IsTyped};
 
@@ -13,7 +13,7 @@ use std::alloc::Global;
 /// of its types, as of `ir_check_types::check_types`; or that memory ran out. Line and column count from 1, columns in bytes.
 pub fn typed_module(alloc: Global, text: &[u8]) -> Result<Module, ReadError>
     ensures typed { IsTyped text.now result }
-    ensures resolved { IfOk result IsResolvedOutside }
+    ensures resolved { IfOk result IsResolved }
     ensures scopes { IfOk result HasEndingScopes }
 {
     let program = read(alloc, text)?;

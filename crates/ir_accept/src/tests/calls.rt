@@ -56,6 +56,34 @@ fn starts_of_tasks(rt: HostRuntime) -> Result<(), Fail> {
             "refused: 4 BadType at 8:55",
         ),
         (
+            "declare i32 @pthread_create(ptr, ptr, ptr, ptr)\ndefine ptr @w(ptr %a) {\n  ret ptr %a\n}\ndefine i32 @main() {\n  %t = alloca i64\n  %r = call i32 @pthread_create(ptr %t, ptr null, ptr @w, ptr null)\n  ret i32 0\n}\n",
+            "accepted",
+        ),
+        (
+            "declare i32 @pthread_create(ptr, ptr, ptr, ptr)\ndefine i32 @w(ptr %a) {\n  ret i32 0\n}\ndefine i32 @main() {\n  %t = alloca i64\n  %r = call i32 @pthread_create(ptr %t, ptr null, ptr @w, ptr null)\n  ret i32 0\n}\n",
+            "refused: 4 BadType at 7:55",
+        ),
+        (
+            "declare i32 @pthread_create(ptr, ptr, ptr, ptr)\ndefine ptr @w(i64 %a) {\n  ret ptr null\n}\ndefine i32 @main() {\n  %t = alloca i64\n  %r = call i32 @pthread_create(ptr %t, ptr null, ptr @w, ptr null)\n  ret i32 0\n}\n",
+            "refused: 4 BadType at 7:55",
+        ),
+        (
+            "declare i32 @pthread_create(ptr, ptr, ptr, ptr)\ndefine ptr @w(ptr %a, ptr %b) {\n  ret ptr %a\n}\ndefine i32 @main() {\n  %t = alloca i64\n  %r = call i32 @pthread_create(ptr %t, ptr null, ptr @w, ptr null)\n  ret i32 0\n}\n",
+            "refused: 4 BadType at 7:55",
+        ),
+        (
+            "declare i32 @pthread_create(ptr, ptr, ptr, ptr)\ndefine ptr @w(ptr %a) {\n  ret ptr %a\n}\ndefine i32 @main() {\n  %t = alloca i64\n  %r = call i32 @pthread_create(ptr %t, ptr null, i64 @w, ptr null)\n  ret i32 0\n}\n",
+            "refused: 4 BadType at 7:55",
+        ),
+        (
+            "declare i32 @pthread_create(ptr, ptr, ptr, ptr)\ndefine ptr @w(ptr %a) {\n  ret ptr %a\n}\ndefine i32 @main() {\n  %t = alloca i64\n  %r = call i32 @pthread_create(ptr %t, ptr null, ptr getelementptr (i8, ptr @w, i64 0), ptr null)\n  ret i32 0\n}\n",
+            "refused: 4 BadType at 7:55",
+        ),
+        (
+            "declare i32 @pthread_create(ptr, ptr, ptr, ptr)\ndeclare ptr @malloc(i64)\ndefine i32 @main() {\n  %t = alloca i64\n  %r = call i32 @pthread_create(ptr %t, ptr null, ptr @malloc, ptr null)\n  ret i32 0\n}\n",
+            "refused: 4 BadType at 5:55",
+        ),
+        (
             "declare i32 @pthread_create(ptr, ptr, ptr, ptr)\ndeclare i32 @pthread_join(i64, ptr)\ndefine i32 @main() {\n  %t = alloca i64\n  %j = call i32 @pthread_join(i64 0, ptr %t)\n  ret i32 0\n}\n",
             "refused: 3 Unsupported at 5:3",
         ),
