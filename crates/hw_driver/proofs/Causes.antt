@@ -5,11 +5,12 @@ use Rattle.std.specs.Str.{bytes_eq}
 use Rattle.std.proofs.lemmas.List.Sums.{sum_by-append}
 use Rattle.std.proofs.lemmas.Slice.Eq.{bytes_eq-Decides}
 use Rattle.hw_base.specs.declared.endings.Status.{Status}
+use Rattle.hw_base.specs.declared.endings.Status.TheVariants as status
 use Rattle.hw_base.specs.declared.endings.Status.TheVariants.{WriteFault}
 use Rattle.hw_driver.specs.Line.{Line}
-use Rattle.hw_driver.specs.Machine.{MachineEnding, Exits, EndsInReport, machine_run}
-use Rattle.hw_driver.specs.Answer.{Decision, FileRead, FilesChange, Runs, JudgesText, file_read, file_failed, memory_failed, Decides, SinkChange, Delivers, delivered, out_failed, err_failed, Answers, ending_decision, tag_under}
-use Rattle.hw_driver.specs.Promises.{times, FileRose, HasRead, HasItsCause, IsFileOrWriteFault, AnswersRises}
+use Rattle.hw_driver.specs.Answer.{Decision, FileRead, FilesChange, JudgesText, file_read, file_failed, memory_failed, Decides, SinkChange, Delivers, delivered, out_failed, err_failed, Answers}
+use Rattle.hw_driver.specs.Promises.{times, FileRose, HasRead, HasRun, HasItsCause, IsFileOrWriteFault, AnswersRises}
+use Rattle.hw_driver.proofs.RunStatuses.{IsRunStatus, runs_status}
 
 -- bytes are equal to themselves
 bytes_eq-self : (bs : List ℕ) → bytes_eq bs bs ≡ true
@@ -21,33 +22,28 @@ times-push name names =
     sum_by-append (λ other. cond (bytes_eq other name) 1 0) names (name ∷ []) ∙ ap (λ b. times name names + (0 + cond b 1 0)) (bytes_eq-self name)
 
 -- how a run ended is the cause of its status
-ending_cause : (words : Option Line) (files : FilesChange) (out err : SinkChange) (l : Line) (read : FileRead) (d : Decision)
-    → HasRead words files l read → (r : Runs l read d) → (e : MachineEnding) → machine_run (tag_under l) r.program ≡ e
-    → HasItsCause words files out err (ending_decision e).status
-ending_cause words files out err l read d has r (Exits output step) is = record {
-  command = l;
-  read = read;
-  has_read = has;
-  program = r.program;
-  accepted = r.accepted;
-  ending = ap (λ e. (ending_decision e).status) is;
-}
-ending_cause words files out err l read d has r (EndsInReport output failed) is = record {
-  command = l;
-  read = read;
-  has_read = has;
-  program = r.program;
-  accepted = r.accepted;
-  ending = ap (λ e. (ending_decision e).status) is;
-}
+run_cause : (words : Option Line) (files : FilesChange) (out err : SinkChange) (s : Status) → IsRunStatus s → HasRun words files s → HasItsCause words files out err s
+run_cause words files out err status.Ended h r = r
+run_cause words files out err status.Reported h r = r
+run_cause words files out err status.BadWords h r = absurd h
+run_cause words files out err status.Refused h r = absurd h
+run_cause words files out err status.FileFault h r = absurd h
+run_cause words files out err status.ReadFault h r = absurd h
+run_cause words files out err status.WriteFault h r = absurd h
+run_cause words files out err status.Memory h r = absurd h
+run_cause words files out err status.Trapped h r = r
+run_cause words files out err status.Spent h r = r
+run_cause words files out err status.Full h r = r
+run_cause words files out err status.Missed h r = absurd h
+run_cause words files out err status.Outside h r = absurd h
 
 text_cause : (words : Option Line) (files : FilesChange) (out err : SinkChange) (l : Line) (read : FileRead) (d : Decision)
     → HasRead words files l read → JudgesText l read d → HasItsCause words files out err d.status
 text_cause words files out err l read d has (inl r) =
-    subst (λ (x : Decision). HasItsCause words files out err x.status) (sym r.decision) (ending_cause words files out err l read d has r (machine_run (tag_under l) r.program) refl)
+    run_cause words files out err d.status (runs_status l read d r) (record { command = l; read = read; has_read = has; decision = d; runs = r; ending = refl })
 text_cause words files out err l read d has (inr r) =
     subst (λ (x : Decision). HasItsCause words files out err x.status) (sym r.decision)
-    (record { command = l; read = read; has_read = has; not_accepted = r.not_accepted })
+    (record { command = l; read = read; has_read = has; decision = d; refuses = r })
 
 decision_cause : (words : Option Line) (files : FilesChange) (out err : SinkChange) (d : Decision)
     → Decides files words d → HasItsCause words files out err d.status

@@ -1,17 +1,17 @@
 -- What the sinks took where a fault came or memory ran out.
 use Rattle.std.proofs.Common.{◌≡◌, ℕ, ◌<◌, List, [], length, Some, None, refl, sym, ◌∙◌, ap, subst, inl, inr, arith, length-append, append-nil}
-use Rattle.std.specs.Prelude.{Option}
+use Rattle.std.specs.Prelude.{Option, ◌⊎◌}
 use Rattle.hw_base.specs.declared.endings.Status.{Status}
 use Rattle.hw_base.specs.declared.endings.Status.TheVariants.{FileFault, WriteFault, Memory}
 use Rattle.hw_ports.specs.Content.{Bytes}
 use Rattle.hw_driver.specs.Line.{Line}
 use Rattle.hw_driver.specs.Program.{Program}
-use Rattle.hw_driver.specs.Machine.{MachineEnding, Exits, EndsInReport, machine_run}
 use Rattle.hw_driver.specs.Closing.{file_fault_line, write_fault_line, memory_line}
-use Rattle.hw_driver.specs.Answer.{Decision, FileRead, FilesChange, IsAccepted, read_of, JudgesText, Judges, file_read, file_failed, memory_failed, Decides, SinkChange, TookAll, TookFront, Delivers, delivered, out_failed, err_failed, Answers, ending_decision, bad_words_decision, file_fault_decision, memory_decision, tag_under}
-use Rattle.hw_driver.specs.Promises.{FileRose, TookSome, TookPart, Closes}
+use Rattle.hw_driver.specs.Answer.{Decision, FileRead, FilesChange, IsOneGlobal, read_of, JudgesText, Judges, file_read, file_failed, memory_failed, Decides, SinkChange, TookAll, TookFront, Delivers, delivered, out_failed, err_failed, Answers, one_global_decision, bad_words_decision, file_fault_decision, memory_decision}
+use Rattle.hw_driver.specs.Promises.{FileRose, TookSome, TookPart, TookJudged, Closes}
 use Rattle.hw_driver.proofs.Causes.{unrisen}
-use Rattle.hw_driver.proofs.Exactness.{bad_words_decided, command_judged, read_told, text_refused, text_run}
+use Rattle.hw_driver.proofs.Exactness.{bad_words_decided, command_judged, read_told, text_run}
+use Rattle.hw_driver.proofs.RunStatuses.{IsRunStatus, runs_status}
 
 -- no front of nothing is short of it
 not_short : (c : SinkChange) → TookFront c [] → ⊥
@@ -26,21 +26,13 @@ silent d e result out err is none del = go (subst (λ (x : Decision). Delivers x
     go (out_failed same o t) = absurd (not_short out (subst (TookFront out) none o))
     go (err_failed same o t) = (subst (TookAll out) none o, inr t)
 
--- how an ending can't be
-ending_no_memory : (e : MachineEnding) → (ending_decision e).status ≡ Memory → ⊥
-ending_no_memory (Exits output step) is = cc
-ending_no_memory (EndsInReport output failed) is = cc
-
-ending_no_file_fault : (e : MachineEnding) → (ending_decision e).status ≡ FileFault → ⊥
-ending_no_file_fault (Exits output step) is = cc
-ending_no_file_fault (EndsInReport output failed) is = cc
-
+-- how a text can't be judged
 text_no_memory : (l : Line) (read : FileRead) (d : Decision) → JudgesText l read d → d.status ≡ Memory → ⊥
-text_no_memory l read d (inl r) is = ending_no_memory (machine_run (tag_under l) r.program) (ap (λ (x : Decision). x.status) (sym r.decision) ∙ is)
+text_no_memory l read d (inl r) is = subst IsRunStatus is (runs_status l read d r)
 text_no_memory l read d (inr r) is = let e = ap (λ (x : Decision). x.status) (sym r.decision) ∙ is in cc
 
 text_no_file_fault : (l : Line) (read : FileRead) (d : Decision) → JudgesText l read d → d.status ≡ FileFault → ⊥
-text_no_file_fault l read d (inl r) is = ending_no_file_fault (machine_run (tag_under l) r.program) (ap (λ (x : Decision). x.status) (sym r.decision) ∙ is)
+text_no_file_fault l read d (inl r) is = subst IsRunStatus is (runs_status l read d r)
 text_no_file_fault l read d (inr r) is = let e = ap (λ (x : Decision). x.status) (sym r.decision) ∙ is in cc
 
 memory_decided : (words : Option Line) (files : FilesChange) (d : Decision) → Decides files words d → d.status ≡ Memory → d ≡ memory_decision
@@ -92,14 +84,6 @@ out_rise_closes d result out err (delivered is o e) rise = absurd (omega (arith,
 out_rise_closes d result out err (out_failed is o told) rise = told
 out_rise_closes d result out err (err_failed is o e) rise = absurd (omega (arith, o.quiet))
 
-no_output : (files : FilesChange) (l : Line) (bytes : List ℕ) (d : Decision) → files.content l.file ≡ Bytes bytes → ((p : Program) → IsAccepted (read_of bytes) p → ⊥)
-    → Judges files l d → d.output ≡ []
-no_output files l bytes d told not_so (file_read j) =
-    let text = subst (λ (x : FileRead). JudgesText l x d) (read_told files.content l.file bytes j.read told j.reads_as) j.text in
-    ap (λ (x : Decision). x.output) (text_refused l (read_of bytes) d not_so text)
-no_output files l bytes d told not_so (file_failed once grown is) = ap (λ (x : Decision). x.output) is
-no_output files l bytes d told not_so (memory_failed reads same is) = ap (λ (x : Decision). x.output) is
-
 -- `out` has a front of what was decided on
 part : (d : Decision) (result : Status) (out err : SinkChange) → Delivers d result out err → TookPart out d.output
 part d result out err (delivered is o e) = record { front = d.output; rest = []; whole = sym (append-nil d.output); taken = o.taken }
@@ -110,14 +94,24 @@ part d result out err (err_failed is o e) = record { front = d.output; rest = []
 part_of_nothing : (out : SinkChange) (text : List ℕ) → TookAll out [] → TookPart out text
 part_of_nothing out text o = record { front = []; rest = text; whole = refl; taken = o.taken }
 
+judged_part : (files : FilesChange) (result : Status) (out err : SinkChange) (l : Line) (bytes : List ℕ) (d : Decision)
+    → files.content l.file ≡ Bytes bytes → Judges files l d → Delivers d result out err → TookAll out [] ⊎ TookJudged l (read_of bytes) out
+judged_part files result out err l bytes d told (file_read j) del = inr (record {
+  decision = d;
+  judged = subst (λ (x : FileRead). JudgesText l x d) (read_told files.content l.file bytes j.read told j.reads_as) j.text;
+  part = part d result out err del;
+})
+judged_part files result out err l bytes d told (file_failed once grown is) del = inl (silent d file_fault_decision result out err is refl del).0
+judged_part files result out err l bytes d told (memory_failed reads same is) del = inl (silent d memory_decision result out err is refl del).0
+
 run_part : (files : FilesChange) (result : Status) (out err : SinkChange) (l : Line) (bytes : List ℕ) (p : Program) (d : Decision)
-    → files.content l.file ≡ Bytes bytes → IsAccepted (read_of bytes) p → Judges files l d → Delivers d result out err
-    → TookPart out (ending_decision (machine_run (tag_under l) p)).output
-run_part files result out err l bytes p d told accepted (file_read j) del =
+    → files.content l.file ≡ Bytes bytes → IsOneGlobal (read_of bytes) p → Judges files l d → Delivers d result out err
+    → TookPart out (one_global_decision l p).output
+run_part files result out err l bytes p d told spelled (file_read j) del =
     let text = subst (λ (x : FileRead). JudgesText l x d) (read_told files.content l.file bytes j.read told j.reads_as) j.text in
-    subst (λ (x : Decision). TookPart out x.output) (text_run l (read_of bytes) p d accepted text) (part d result out err del)
-run_part files result out err l bytes p d told accepted (file_failed once grown is) del = part_of_nothing out _ (silent d file_fault_decision result out err is refl del).0
-run_part files result out err l bytes p d told accepted (memory_failed reads same is) del = part_of_nothing out _ (silent d memory_decision result out err is refl del).0
+    subst (λ (x : Decision). TookPart out x.output) (text_run l (read_of bytes) p d spelled text) (part d result out err del)
+run_part files result out err l bytes p d told spelled (file_failed once grown is) del = part_of_nothing out _ (silent d file_fault_decision result out err is refl del).0
+run_part files result out err l bytes p d told spelled (memory_failed reads same is) del = part_of_nothing out _ (silent d memory_decision result out err is refl del).0
 
 pub Answers-closes : (words : Option Line) (files : FilesChange) (result : Status) (out err : SinkChange)
     → Answers words files result out err → Closes words files out err result
@@ -127,8 +121,8 @@ Answers-closes words files result out err a = record {
   out_rose = out_rise_closes a.decision result out err a.delivered;
   file_rose = λ rise. silent a.decision file_fault_decision result out err (rise_decided words files a.decision a.decided rise) refl a.delivered;
   no_line = λ none. silent a.decision bad_words_decision result out err (bad_words_decided words files a.decision none a.decided) refl a.delivered;
-  not_accepted = λ l bytes some told not_so. (silent a.decision a.decision result out err refl
-      (no_output files l bytes a.decision told not_so (command_judged words files a.decision l some a.decided)) a.delivered).0;
-  accepted = λ l bytes p some told accepted. run_part files result out err l bytes p a.decision told accepted
+  judged = λ l bytes some told. judged_part files result out err l bytes a.decision told
+      (command_judged words files a.decision l some a.decided) a.delivered;
+  one_global = λ l bytes p some told spelled. run_part files result out err l bytes p a.decision told spelled
       (command_judged words files a.decision l some a.decided) a.delivered;
 }

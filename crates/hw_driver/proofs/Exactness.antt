@@ -6,8 +6,7 @@ use Rattle.hw_base.specs.declared.endings.Status.TheVariants.{Memory}
 use Rattle.hw_ports.specs.Content.{Content, Bytes}
 use Rattle.hw_driver.specs.Line.{Line}
 use Rattle.hw_driver.specs.Program.{Program}
-use Rattle.hw_driver.specs.Machine.{machine_run}
-use Rattle.hw_driver.specs.Answer.{Decision, FileRead, FilesChange, OneReadFailed, Whole, TooLong, ReadsAs, IsAccepted, read_of, JudgesText, JudgesFile, Judges, file_read, file_failed, memory_failed, Decides, SinkChange, Delivers, delivered, out_failed, err_failed, Answers, ending_decision, refused_decision, bad_words_decision, tag_under}
+use Rattle.hw_driver.specs.Answer.{Decision, FileRead, FilesChange, OneReadFailed, Whole, TooLong, ReadsAs, IsOneGlobal, read_of, JudgesText, JudgesFile, Judges, file_read, file_failed, memory_failed, Decides, SinkChange, Delivers, delivered, out_failed, err_failed, Answers, one_global_decision, bad_words_decision}
 use Rattle.hw_driver.specs.Promises.{FileRose, HadNoFault, Shows, IsExact}
 use Rattle.hw_driver.proofs.Causes.{times-push}
 use Rattle.hw_driver.proofs.Spelling.{program_of-spelling}
@@ -43,17 +42,15 @@ pub read_told : (content : List ℕ → Content) (file bytes : List ℕ) (read :
 read_told content file bytes read told reads = rw told at reads
 
 -- a text spells one program
-pub same_program : (read : FileRead) (p q : Program) → IsAccepted read p → IsAccepted read q → p ≡ q
+pub same_program : (read : FileRead) (p q : Program) → IsOneGlobal read p → IsOneGlobal read q → p ≡ q
 same_program (Whole text) p q a b = let e = program_of-spelling text p a in let f = program_of-spelling text q b in cc
 same_program TooLong p q a b = absurd a
 
-pub text_refused : (l : Line) (read : FileRead) (d : Decision) → ((p : Program) → IsAccepted read p → ⊥) → JudgesText l read d → d ≡ refused_decision
-text_refused l read d not_so (inl r) = absurd (not_so r.program r.accepted)
-text_refused l read d not_so (inr r) = r.decision
-
-pub text_run : (l : Line) (read : FileRead) (p : Program) (d : Decision) → IsAccepted read p → JudgesText l read d → d ≡ ending_decision (machine_run (tag_under l) p)
-text_run l read p d accepted (inl r) = r.decision ∙ ap (λ (q : Program). ending_decision (machine_run (tag_under l) q)) (same_program read r.program p r.accepted accepted)
-text_run l read p d accepted (inr r) = absurd (r.not_accepted p accepted)
+-- a text of one global comes to the run of its program
+pub text_run : (l : Line) (read : FileRead) (p : Program) (d : Decision) → IsOneGlobal read p → JudgesText l read d → d ≡ one_global_decision l p
+text_run l read p d spelled (inl (inl r)) = r.decision ∙ ap (one_global_decision l) (same_program read r.program p r.spelled spelled)
+text_run l read p d spelled (inl (inr r)) = absurd (r.other p spelled)
+text_run l read p d spelled (inr r) = absurd (r.other p spelled)
 
 -- a command whose text is observable: the file was read, and the text is that one
 told_text : (words : Option Line) (files : FilesChange) (result : Status) (out err : SinkChange) (d : Decision) (l : Line) (bytes : List ℕ)
@@ -69,8 +66,11 @@ Answers-exact words files result out err a h =
     let all = shown words files a.decision result out err a.delivered h in
     record {
       bad_words = λ none. subst (λ (x : Decision). Shows x result out err) (bad_words_decided words files a.decision none a.decided) all;
-      refused = λ l bytes some told not_so. subst (λ (x : Decision). Shows x result out err)
-          (text_refused l (read_of bytes) a.decision not_so (told_text words files result out err a.decision l bytes some told h all.status a.decided)) all;
-      run = λ l bytes p some told accepted. subst (λ (x : Decision). Shows x result out err)
-          (text_run l (read_of bytes) p a.decision accepted (told_text words files result out err a.decision l bytes some told h all.status a.decided)) all;
+      judged = λ l bytes some told. record {
+        decision = a.decision;
+        judged = told_text words files result out err a.decision l bytes some told h all.status a.decided;
+        shows = all;
+      };
+      one_global = λ l bytes p some told spelled. subst (λ (x : Decision). Shows x result out err)
+          (text_run l (read_of bytes) p a.decision spelled (told_text words files result out err a.decision l bytes some told h all.status a.decided)) all;
     }

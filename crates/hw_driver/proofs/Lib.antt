@@ -1,3 +1,4 @@
+pub mod BoundedRuns
 pub mod Causes
 pub mod ClosingBytes
 pub mod Detected
@@ -6,9 +7,12 @@ pub mod FileReads
 pub mod Groups
 pub mod Judged
 pub mod MachineRuns
+pub mod ModuleRuns
 pub mod Numerals
+pub mod OptionWords
 pub mod PiecesGiven
 pub mod Regrouped
+pub mod RunStatuses
 pub mod Sent
 pub mod Simulation
 pub mod Spelled

@@ -10,7 +10,7 @@ use Rattle.std.proofs.lemmas.Fmt.{IsAscii-from_digits}
 use Rattle.std.proofs.lemmas.Str.{IsUtf8-from_ascii}
 use Rattle.std.proofs.lemmas.Str.Parse.{IsNumeralModel, numerals_by_value, tells_all_ascii_digits, parse_digits}
 use Rattle.std.proofs.lemmas.Bool.Decides.{nat_tests}
-use Rattle.hw_driver.specs.Line.{is_number, tag_word}
+use Rattle.hw_driver.specs.Line.{is_number, number_of, tag_word}
 use Rattle.hw_driver.specs.Reading.{digit_count, is_numeral, value_of}
 
 -- the test of digits and their value are those of std
@@ -75,3 +75,11 @@ word_by ds (Err e) is none = word_none (is_number ds) (digits_value 10 ds) (λ s
 
 pub result_ok-parse_word : {E : Type 0} (ds : List ℕ) (r : Result ℕ E) → is_number ds ≡ true → ParsesUnsigned 8 10 ds r → result_ok r ≡ tag_word ds
 result_ok-parse_word ds r is parsed = word_by ds r is (parse_digits word_numerals 8 ds r parsed (number_parts ds is).1)
+
+number_by : {E : Type 0} (ds : List ℕ) (r : Result ℕ E) → is_number ds ≡ true → OkIff r ((0 < length ds) × (digits_value 10 ds < 2 ^ 64)) (digits_value 10 ds) → result_ok r ≡ number_of ds
+unfolding number_of
+number_by ds (Ok x) is found = chosen_some (is_number ds) (digits_value 10 ds) x (2 ^ 64) is found.0.1 found.1
+number_by ds (Err e) is none = chosen_none (is_number ds) (digits_value 10 ds) (2 ^ 64) (λ small. none ((number_parts ds is).0, small))
+
+pub result_ok-parse_number : {E : Type 0} (ds : List ℕ) (r : Result ℕ E) → is_number ds ≡ true → ParsesUnsigned 64 10 ds r → result_ok r ≡ number_of ds
+result_ok-parse_number ds r is parsed = number_by ds r is (parse_digits word_numerals 64 ds r parsed (number_parts ds is).1)

@@ -3,16 +3,32 @@ use Rattle.std.specs.Prelude.{◌≡◌, ◌⊎◌, ℕ, ◌<◌, ◌≤◌, nat
 use Rattle.std.specs.Io.KnownBytes.{Appends}
 use Rattle.hw_base.specs.declared.numbers.TheConstants.{MOST_TEXT}
 use Rattle.hw_base.specs.declared.endings.Status.{Status}
-use Rattle.hw_base.specs.declared.endings.Status.TheVariants.{Ended, Reported, BadWords, Refused, FileFault, WriteFault, Memory}
+use Rattle.hw_base.specs.declared.endings.Status.TheVariants.{Ended, Reported, BadWords, Refused, FileFault, WriteFault, Memory, Spent}
 use Rattle.hw_ports.specs.Causes.{Rose}
 use Rattle.hw_ports.specs.Content.{Content, Unobservable, Absent, Bytes}
 use Rattle.hw_tags.specs.Tag.{global_tag_of}
 use Rattle.hw_tags.specs.Word.{word}
-use Rattle.hw_tags.specs.declared.words_spec.WordsSpec.TheVariants.{Seed}
+use Rattle.hw_tags.specs.declared.options.Options.{Options}
+use Rattle.hw_tags.specs.declared.words_spec.WordsSpec.{WordsSpec}
+use Rattle.hw_tags.specs.declared.words_spec.WordsSpec.TheVariants.{Cycle, Seed}
+use Rattle.ir_core.specs.declared.faults.Fault.TheVariants.{TooLarge}
+use Rattle.ir_core.specs.declared.faults.Limit.TheVariants.{Text}
+use Rattle.ir_core.specs.declared.ir_module.Module.{Module}
+use Rattle.ir_core.specs.declared.refusals.Refusal.{Refusal}
+use Rattle.ir_core.specs.Refusals.{refused_line}
+use Rattle.ir_accept.specs.Accepted.{IsAcceptedAs, IsFaulty}
+use Rattle.built_rows.specs.Unbuilt.{unbuilt}
+use Rattle.ir_machine.specs.Runs.{run_of, setting_of}
+use Rattle.accepted_detection.specs.AcceptedRuns.{DetectsAlways}
+use Rattle.hw_run.specs.Closing.{spent_line}
+use Rattle.hw_run.specs.RunEnds.{IsGathered}
+use Rattle.hw_run.specs.declared.ends.Gathered.{Gathered}
+use Rattle.hw_driver.specs.declared.options.TheConstants.{STEPS, HEAP, RING}
 use Rattle.hw_driver.specs.Line.{Line}
 use Rattle.hw_driver.specs.Program.{Program, Spells}
-use Rattle.hw_driver.specs.Machine.{MachineEnding, Exits, EndsInReport, machine_run}
-use Rattle.hw_driver.specs.Closing.{usage_line, file_fault_line, write_fault_line, memory_line, unsupported_line, ended_line, report_lines}
+use Rattle.hw_driver.specs.Machine.{MachineEnding, Exits, EndsInReport}
+use Rattle.hw_driver.specs.Bounded.{BoundedEnding, Ends, Stops, bounded_run}
+use Rattle.hw_driver.specs.Closing.{usage_line, file_fault_line, write_fault_line, memory_line, ended_line, report_lines}
 
 -- a status, what is written to `out`, and the closing text
 pub record Decision : Type 0 where
@@ -35,19 +51,30 @@ ReadsAs Unobservable read = ⊤
 ReadsAs Absent read = ⊥
 ReadsAs (Bytes bytes) read = read ≡ read_of bytes
 
--- a text is accepted: it spells this program
-abbrev pub IsAccepted : FileRead → Program → Type 0
-IsAccepted (Whole text) p = Spells text p
-IsAccepted TooLong p = ⊥
+-- ---- options
 
--- the tag word that is given, or else the first word of seed 1
-abbrev pub given_word : Option ℕ → ℕ
-given_word None = word (Seed 1) 0
-given_word (Some w) = w
+-- the tag words: the one that is given, again and again, or else those of seed 1
+abbrev pub tag_words : Option ℕ → WordsSpec
+tag_words None = Seed 1
+tag_words (Some w) = Cycle (w ∷ [])
 
--- the tag of the global under a command
-abbrev pub tag_under : Line → ℕ
-tag_under l = global_tag_of (given_word l.word) 0
+-- the bound on the steps, by default the constant
+abbrev pub steps_or : Option ℕ → ℕ
+steps_or None = STEPS
+steps_or (Some steps) = steps
+
+abbrev pub bound_under : Line → ℕ
+bound_under l = steps_or l.given.steps
+
+-- the options of a run under a command
+pub record IsOptionsOf (l : Line) (options : Options) : Type 0 where
+  pub tags : options.tags ≡ tag_words l.given.word
+  pub turns : options.turns ≡ Seed 1
+  pub steps : options.steps ≡ bound_under l
+  pub heap : options.heap ≡ HEAP
+  pub ring : options.ring ≡ RING
+
+-- ---- decisions
 
 abbrev pub bad_words_decision : Decision
 bad_words_decision = record { status = BadWords; output = []; text = usage_line }
@@ -58,24 +85,97 @@ file_fault_decision = record { status = FileFault; output = []; text = file_faul
 abbrev pub memory_decision : Decision
 memory_decision = record { status = Memory; output = []; text = memory_line }
 
-abbrev pub refused_decision : Decision
-refused_decision = record { status = Refused; output = []; text = unsupported_line }
+abbrev pub refused_decision : Refusal → Decision
+refused_decision refusal = record { status = Refused; output = []; text = refused_line refusal }
+
+-- a text of more than the most bytes
+abbrev pub too_long : Refusal
+too_long = record { fault = TooLarge Text; line = 1; column = 1 }
+
+-- ---- texts of one global
+
+-- a text is of the form of one global: it spells this program
+abbrev pub IsOneGlobal : FileRead → Program → Type 0
+IsOneGlobal (Whole text) p = Spells text p
+IsOneGlobal TooLong p = ⊥
+
+-- a text is of any other form
+abbrev pub IsOther : FileRead → Type 0
+IsOther read = (p : Program) → IsOneGlobal read p → ⊥
+
+-- the tag word that is given, or else the first word of seed 1
+abbrev pub given_word : Option ℕ → ℕ
+given_word None = word (Seed 1) 0
+given_word (Some w) = w
+
+-- the tag of the global under a command
+abbrev pub tag_under : Line → ℕ
+tag_under l = global_tag_of (given_word l.given.word) 0
 
 -- what a run that ended so comes to
 abbrev pub ending_decision : MachineEnding → Decision
 ending_decision (Exits output step) = record { status = Ended; output = output; text = ended_line step }
 ending_decision (EndsInReport output failed) = record { status = Reported; output = output; text = report_lines failed }
 
--- an accepted text comes to its run
-pub record Runs (l : Line) (read : FileRead) (d : Decision) : Type 0 where
-  pub program : Program
-  pub accepted : IsAccepted read program
-  pub decision : d ≡ ending_decision (machine_run (tag_under l) program)
+-- and under a bound
+abbrev pub bounded_decision : (bound : ℕ) → BoundedEnding → Decision
+bounded_decision bound (Ends ending) = ending_decision ending
+bounded_decision bound (Stops output) = record { status = Spent; output = output; text = spent_line bound }
 
--- any other text is refused
+-- the decision for a program of one global under a command
+abbrev pub one_global_decision : Line → Program → Decision
+one_global_decision l p = bounded_decision (bound_under l) (bounded_run (bound_under l) (tag_under l) p)
+
+-- a text of one global comes to the run of its program
+pub record RunsOneGlobal (l : Line) (read : FileRead) (d : Decision) : Type 0 where
+  pub program : Program
+  pub spelled : IsOneGlobal read program
+  pub decision : d ≡ one_global_decision l program
+
+-- ---- all other texts
+
+-- the text is accepted, this is its module, and the machine runs all of it
+abbrev pub IsRun : FileRead → Module → Type 0
+IsRun (Whole text) m = IsAcceptedAs text m × (unbuilt m ≡ None)
+IsRun TooLong m = ⊥
+
+-- the text has a fault, or a part that the machine doesn't run
+abbrev pub IsRefused : FileRead → Refusal → Type 0
+IsRefused (Whole text) refusal = IsFaulty text refusal ⊎ ((m : Module) × IsAcceptedAs text m × (unbuilt m ≡ Some refusal))
+IsRefused TooLong refusal = refusal ≡ too_long
+
+abbrev pub gathered_of : Decision → Gathered
+gathered_of d = record { output = d.output; status = d.status; text = d.text }
+
+-- A module comes to its run under the options of the command, whatever the input is; and the detection theorem holds of that run,
+-- whatever the input is.
+pub record IsRunOf (l : Line) (m : Module) (d : Decision) : Type 0 where
+  pub options : Options
+  pub options_right : IsOptionsOf l options
+  pub decision : (input : List ℕ) → IsGathered m options.steps (run_of m options input) (gathered_of d)
+  pub detects : (input : List ℕ) → DetectsAlways (setting_of m options input) (word options.turns) options.steps
+
+-- what an accepted module comes to: its run, or the refusal of a part that the machine doesn't run
+abbrev pub JudgesModule : Line → Module → Decision → Type 0
+JudgesModule l m d = ((unbuilt m ≡ None) × IsRunOf l m d) ⊎ ((refusal : Refusal) × (unbuilt m ≡ Some refusal) × (d ≡ refused_decision refusal))
+
+-- a text that is accepted comes to the run of its module
+pub record RunsModule (l : Line) (read : FileRead) (d : Decision) : Type 0 where
+  pub other : IsOther read
+  pub m : Module
+  pub accepted : IsRun read m
+  pub run : IsRunOf l m d
+
+-- a text comes to a run
+abbrev pub Runs : Line → FileRead → Decision → Type 0
+Runs l read d = RunsOneGlobal l read d ⊎ RunsModule l read d
+
+-- a text is refused
 pub record Refuses (read : FileRead) (d : Decision) : Type 0 where
-  pub not_accepted : (p : Program) → IsAccepted read p → ⊥
-  pub decision : d ≡ refused_decision
+  pub other : IsOther read
+  pub refusal : Refusal
+  pub refused : IsRefused read refusal
+  pub decision : d ≡ refused_decision refusal
 
 -- What a command and a text that was read come to.
 abbrev pub JudgesText : Line → FileRead → Decision → Type 0

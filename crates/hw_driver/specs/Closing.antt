@@ -3,8 +3,6 @@ use Rattle.std.specs.Prelude.{ℕ, ◌-◌, ◌^◌, List, ◌++◌, codes, fals
 use Rattle.std.specs.Fmt.{decimal, digits, padded_integral, format_spec}
 use Rattle.hw_base.specs.declared.accesses.Access.{Access}
 use Rattle.hw_base.specs.declared.accesses.Access.TheVariants.{Read, Write, Free}
-use Rattle.ir_core.specs.declared.faults.Fault.TheVariants.{Unsupported}
-use Rattle.ir_core.specs.Refusals.{refused_line}
 use Rattle.hw_shadow.specs.declared.mismatch.Mismatch.{Mismatch}
 use Rattle.hw_shadow.specs.declared.mismatch.Mismatch.TheVariants.{Unmapped, Tags}
 use Rattle.hw_driver.specs.Machine.{FailedCheck}
@@ -20,10 +18,6 @@ write_fault_line = codes "fault: write\n"
 
 abbrev pub memory_line : List ℕ
 memory_line = codes "memory\n"
-
--- a text that is no program of the accepted form
-abbrev pub unsupported_line : List ℕ
-unsupported_line = refused_line (record { fault = Unsupported; line = 1; column = 1 })
 
 -- the program returned 0 in this step
 abbrev pub ended_line : ℕ → List ℕ

@@ -1,5 +1,5 @@
 -- The detection theorem for programs of one global: a report exactly at the first violation, and of exactly that access.
-use Rattle.std.specs.Prelude.{◌≡◌, ℕ, List, ◌↔◌, IsSome, Option, Some, length}
+use Rattle.std.specs.Prelude.{◌≡◌, ℕ, ◌≤◌, List, ◌↔◌, IsSome, Option, Some, length}
 use Rattle.std.specs.Io.KnownBytes.{Appends}
 use Rattle.hw_base.specs.declared.endings.Status.{Status}
 use Rattle.hw_base.specs.declared.endings.Status.TheVariants.{Ended, Reported}
@@ -27,15 +27,17 @@ report_of tag v found = record {
   found = found;
 }
 
--- While the program meets no violation, its output is printed and there is no report. At its first violation the same output has
--- been printed, and the access is reported exactly if the tag rule refuses it. For one global the rule always does.
-pub record Detects (tag : ℕ) (p : Program) (result : Status) (out err : SinkChange) : Type 0 where
-  pub same_output : (output : List ℕ) (step : ℕ) → source_run p ≡ Exits output step → Appends out.taken_before out.taken_after output
-  pub no_report : (output : List ℕ) (step : ℕ) → source_run p ≡ Exits output step → result ≡ Ended
-  pub end_line : (output : List ℕ) (step : ℕ) → source_run p ≡ Exits output step → Appends err.taken_before err.taken_after (ended_line step)
-  pub same_output_before : (s : SourceState) (v : Violation) → source_run p ≡ EndsInViolation s v → Appends out.taken_before out.taken_after s.output
-  pub report_exactly_where_refused : (s : SourceState) (v : Violation) → source_run p ≡ EndsInViolation s v
+-- Under a bound on the steps: if the program exits within it, its output is printed and there is no report. If it meets its first
+-- violation within the bound, the same output has been printed, and the access is reported exactly if the tag rule refuses it. For
+-- one global the rule always does.
+pub record Detects (bound tag : ℕ) (p : Program) (result : Status) (out err : SinkChange) : Type 0 where
+  pub same_output : (output : List ℕ) (step : ℕ) → source_run p ≡ Exits output step → step ≤ bound → Appends out.taken_before out.taken_after output
+  pub no_report : (output : List ℕ) (step : ℕ) → source_run p ≡ Exits output step → step ≤ bound → result ≡ Ended
+  pub end_line : (output : List ℕ) (step : ℕ) → source_run p ≡ Exits output step → step ≤ bound → Appends err.taken_before err.taken_after (ended_line step)
+  pub same_output_before : (s : SourceState) (v : Violation) → source_run p ≡ EndsInViolation s v → v.step ≤ bound
+      → Appends out.taken_before out.taken_after s.output
+  pub report_exactly_where_refused : (s : SourceState) (v : Violation) → source_run p ≡ EndsInViolation s v → v.step ≤ bound
       → (result ≡ Reported) ↔ IsSome (refusing_at tag s v)
-  pub report_of_that_access : (s : SourceState) (v : Violation) (found : Mismatch) → source_run p ≡ EndsInViolation s v
+  pub report_of_that_access : (s : SourceState) (v : Violation) (found : Mismatch) → source_run p ≡ EndsInViolation s v → v.step ≤ bound
       → refusing_at tag s v ≡ Some found → Appends err.taken_before err.taken_after (report_lines (report_of tag v found))
   pub never_missed : (s : SourceState) (v : Violation) → source_run p ≡ EndsInViolation s v → IsSome (refusing_at tag s v)

@@ -1,4 +1,5 @@
 pub mod Answer
+pub mod Bounded
 pub mod Closing
 pub mod Decided
 pub mod Detection
@@ -11,5 +12,6 @@ pub mod Promises
 pub mod Reading
 pub mod Sending
 pub mod Source
+pub mod StepBounds
 pub mod Tags
 pub mod Views

@@ -1,14 +1,20 @@
 -- The words of the command line that are a command. This project's choice.
-use Rattle.std.specs.Prelude.{ℕ, List, [], ◌∷◌, length, Option, Some, None, Bool, ◌&&◌, not, nat_lt, nat_le, nat_eq, if◌then◌else◌, codes, option_map}
+use Rattle.std.specs.Prelude.{ℕ, ◌^◌, List, [], ◌∷◌, length, Option, Some, None, Bool, ◌&&◌, not, nat_lt, nat_le, nat_eq, if◌then◌else◌, codes, option_map}
 use Rattle.std.specs.Char.{is_ascii_digit}
 use Rattle.std.specs.List.{starts_with, list_all}
 use Rattle.std.specs.Str.{bytes_eq}
 use Rattle.std.specs.Str.Parse.{digits_value}
+use Rattle.hw_base.specs.declared.numbers.TheConstants.{MOST_STEPS}
 
--- a command: the FILE word, and the tag word if it is given
+-- the options that are given: a tag word, and a bound on the steps
+pub record Given : Type 0 where
+  pub word : Option ℕ
+  pub steps : Option ℕ
+
+-- a command: the FILE word, and the options that are given
 pub record Line : Type 0 where
   pub file : List ℕ
-  pub word : Option ℕ
+  pub given : Given
 
 -- a FILE word doesn't begin with a dash
 abbrev pub is_file : List ℕ → Bool
@@ -22,18 +28,53 @@ is_number text = nat_lt 0 (length text) && list_all is_ascii_digit text
 unfoldable pub tag_word : List ℕ → Option ℕ
 tag_word text = if is_number text && nat_le (digits_value 10 text) 255 then Some (digits_value 10 text) else None
 
--- run FILE
-unfoldable pub plain_line : List ℕ → List ℕ → Option Line
-plain_line mode file = if bytes_eq mode (codes "run") && is_file file then Some (record { file = file; word = None }) else None
+-- a number of steps
+abbrev pub is_bound : ℕ → Bool
+is_bound n = nat_le 1 n && nat_le n MOST_STEPS
 
--- run FILE --tags W
-unfoldable pub tagged_line : List ℕ → List ℕ → List ℕ → List ℕ → Option Line
-tagged_line mode file name value =
-    if bytes_eq mode (codes "run") && is_file file && bytes_eq name (codes "--tags")
-    then option_map (λ word. record { file = file; word = Some word }) (tag_word value) else None
+-- the number that a text writes, below 2^64
+unfoldable pub number_of : List ℕ → Option ℕ
+number_of text = if is_number text && nat_lt (digits_value 10 text) (2 ^ 64) then Some (digits_value 10 text) else None
+
+abbrev pub bounded : Option ℕ → Option ℕ
+bounded None = None
+bounded (Some n) = if is_bound n then Some n else None
+
+-- a bound on the steps: a number from 1 on, to the greatest
+abbrev pub step_bound : List ℕ → Option ℕ
+step_bound text = bounded (number_of text)
+
+-- a value is given at most once
+abbrev pub once : (before value : Option ℕ) → Option ℕ
+once None value = value
+once (Some other) value = None
+
+-- an option that is given beside others, if it is one and isn't given yet
+abbrev pub add_tags : Given → List ℕ → Option Given
+add_tags given value = option_map (λ word. record { word = Some word; steps = given.steps }) (once given.word (tag_word value))
+
+abbrev pub add_steps : Given → List ℕ → Option Given
+add_steps given value = option_map (λ steps. record { word = given.word; steps = Some steps }) (once given.steps (step_bound value))
+
+unfoldable pub add_option : Given → (name value : List ℕ) → Option Given
+add_option given name value =
+    if bytes_eq name (codes "--tags") then add_tags given value else (if bytes_eq name (codes "--steps") then add_steps given value else None)
+
+-- options with their values, in any order
+abbrev pub options_after : List (List ℕ) → Option Given → Option Given
+options_after words None = None
+options_after [] (Some given) = Some given
+options_after (name ∷ []) (Some given) = None
+options_after (name ∷ value ∷ words) (Some given) = options_after words (add_option given name value)
+
+abbrev pub none_given : Given
+none_given = record { word = None; steps = None }
+
+-- run FILE, with options after it
+unfoldable pub line_with : (mode file : List ℕ) → Option Given → Option Line
+line_with mode file given = if bytes_eq mode (codes "run") && is_file file then option_map (λ options. record { file = file; given = options }) given else None
 
 -- the command that the words are, or none
 abbrev pub line : List (List ℕ) → Option Line
-line (mode ∷ file ∷ []) = plain_line mode file
-line (mode ∷ file ∷ name ∷ value ∷ []) = tagged_line mode file name value
+line (mode ∷ file ∷ words) = line_with mode file (options_after words (Some none_given))
 line words = None

@@ -3,14 +3,13 @@ use Rattle.std.specs.Prelude.{◌≡◌, ◌⊎◌, ℕ, ◌<◌, List, [], ◌+
 use Rattle.std.specs.Str.{bytes_eq}
 use Rattle.std.specs.Io.KnownBytes.{Appends}
 use Rattle.hw_base.specs.declared.endings.Status.{Status}
-use Rattle.hw_base.specs.declared.endings.Status.TheVariants.{Ended, Reported, BadWords, Refused, FileFault, WriteFault, Memory}
+use Rattle.hw_base.specs.declared.endings.Status.TheVariants.{Ended, Reported, BadWords, Refused, FileFault, WriteFault, Memory, Trapped, Spent, Full}
 use Rattle.hw_ports.specs.Causes.{Rose}
 use Rattle.hw_ports.specs.Content.{Bytes}
 use Rattle.hw_driver.specs.Line.{Line}
 use Rattle.hw_driver.specs.Program.{Program}
-use Rattle.hw_driver.specs.Machine.{machine_run}
 use Rattle.hw_driver.specs.Closing.{usage_line, file_fault_line, write_fault_line, memory_line}
-use Rattle.hw_driver.specs.Answer.{Decision, FileRead, FilesChange, ReadsNothing, ReadsOnce, ReadsAs, IsAccepted, SinkChange, TookAll, TookFront, read_of, tag_under, ending_decision, bad_words_decision, refused_decision}
+use Rattle.hw_driver.specs.Answer.{Decision, FileRead, FilesChange, ReadsNothing, ReadsOnce, ReadsAs, IsOneGlobal, Runs, Refuses, JudgesText, SinkChange, TookAll, TookFront, read_of, bad_words_decision, one_global_decision}
 
 -- how often a name is among these
 abbrev pub times : List ℕ → List (List ℕ) → ℕ
@@ -26,26 +25,30 @@ pub record HasRead (words : Option Line) (files : FilesChange) (l : Line) (read 
   pub line : words ≡ Some l
   pub read_as : ReadsAs (files.content l.file) read
 
--- the cause of a refusal: the line is accepted, and the text isn't
+-- the cause of a refusal: the line is a command, and the text has a fault or a part that the machine doesn't run
 pub record HasBadText (words : Option Line) (files : FilesChange) : Type 0 where
   pub command : Line
   pub read : FileRead
   pub has_read : HasRead words files command read
-  pub not_accepted : (p : Program) → IsAccepted read p → ⊥
+  pub decision : Decision
+  pub refuses : Refuses read decision
 
--- the cause of an end or a report: the line and the text are accepted, and the machine's run ends so
+-- the cause of how a run ended: the line is a command, and the text comes to a run with this status
 pub record HasRun (words : Option Line) (files : FilesChange) (status : Status) : Type 0 where
   pub command : Line
   pub read : FileRead
   pub has_read : HasRead words files command read
-  pub program : Program
-  pub accepted : IsAccepted read program
-  pub ending : (ending_decision (machine_run (tag_under command) program)).status ≡ status
+  pub decision : Decision
+  pub runs : Runs command read decision
+  pub ending : decision.status ≡ status
 
 -- The cause of each answer.
 abbrev pub HasItsCause : Option Line → FilesChange → SinkChange → SinkChange → Status → Type 0
 HasItsCause words files out err Ended = HasRun words files Ended
 HasItsCause words files out err Reported = HasRun words files Reported
+HasItsCause words files out err Trapped = HasRun words files Trapped
+HasItsCause words files out err Spent = HasRun words files Spent
+HasItsCause words files out err Full = HasRun words files Full
 HasItsCause words files out err BadWords = words ≡ None
 HasItsCause words files out err Refused = HasBadText words files
 HasItsCause words files out err FileFault = FileRose words files
@@ -78,13 +81,18 @@ pub record Shows (d : Decision) (result : Status) (out err : SinkChange) : Type 
   pub output : Appends out.taken_before out.taken_after d.output
   pub text : Appends err.taken_before err.taken_after d.text
 
+-- a text is judged, and just that is delivered
+pub record ShowsJudged (l : Line) (read : FileRead) (result : Status) (out err : SinkChange) : Type 0 where
+  pub decision : Decision
+  pub judged : JudgesText l read decision
+  pub shows : Shows decision result out err
+
 -- Without a fault and with enough memory, the answer is that of the words and the text.
 pub record IsExact (words : Option Line) (files : FilesChange) (result : Status) (out err : SinkChange) : Type 0 where
   pub bad_words : words ≡ None → Shows bad_words_decision result out err
-  pub refused : (l : Line) (bytes : List ℕ) → words ≡ Some l → files.content l.file ≡ Bytes bytes
-      → ((p : Program) → IsAccepted (read_of bytes) p → ⊥) → Shows refused_decision result out err
-  pub run : (l : Line) (bytes : List ℕ) (p : Program) → words ≡ Some l → files.content l.file ≡ Bytes bytes
-      → IsAccepted (read_of bytes) p → Shows (ending_decision (machine_run (tag_under l) p)) result out err
+  pub judged : (l : Line) (bytes : List ℕ) → words ≡ Some l → files.content l.file ≡ Bytes bytes → ShowsJudged l (read_of bytes) result out err
+  pub one_global : (l : Line) (bytes : List ℕ) (p : Program) → words ≡ Some l → files.content l.file ≡ Bytes bytes
+      → IsOneGlobal (read_of bytes) p → Shows (one_global_decision l p) result out err
 
 -- the sink took all of a text, or a front of it before a fault
 abbrev pub TookSome : SinkChange → List ℕ → Type 0
@@ -105,15 +113,21 @@ pub record ReadsItsFile (words : Option Line) (files : FilesChange) (out err : S
   pub once : (l : Line) → words ≡ Some l → (result ≡ Memory → ⊥) → (result ≡ WriteFault → ⊥) → ReadsOnce files l.file
   pub unread : (l : Line) → words ≡ Some l → ReadsNothing files → TookAll out [] × TookSome err memory_line
 
+-- a text is judged, and `out` took a front of the output, or all of it
+pub record TookJudged (l : Line) (read : FileRead) (out : SinkChange) : Type 0 where
+  pub decision : Decision
+  pub judged : JudgesText l read decision
+  pub part : TookPart out decision.output
+
 -- With a fault or without memory, the closing line says so as far as `err` takes it, and `out` has no more than a front of the
--- output of the run of an accepted text.
+-- output of the run of the text, of one that is refused nothing.
 pub record Closes (words : Option Line) (files : FilesChange) (out err : SinkChange) (result : Status) : Type 0 where
   pub memory : result ≡ Memory → TookAll out [] × TookAll err memory_line
   pub file_fault : result ≡ FileFault → TookAll out [] × TookAll err file_fault_line
   pub out_rose : out.faults_before < out.faults_after → TookSome err write_fault_line
   pub file_rose : FileRose words files → TookAll out [] × TookSome err file_fault_line
   pub no_line : words ≡ None → TookAll out [] × TookSome err usage_line
-  pub not_accepted : (l : Line) (bytes : List ℕ) → words ≡ Some l → files.content l.file ≡ Bytes bytes
-      → ((p : Program) → IsAccepted (read_of bytes) p → ⊥) → TookAll out []
-  pub accepted : (l : Line) (bytes : List ℕ) (p : Program) → words ≡ Some l → files.content l.file ≡ Bytes bytes → IsAccepted (read_of bytes) p
-      → TookPart out (ending_decision (machine_run (tag_under l) p)).output
+  pub judged : (l : Line) (bytes : List ℕ) → words ≡ Some l → files.content l.file ≡ Bytes bytes
+      → TookAll out [] ⊎ TookJudged l (read_of bytes) out
+  pub one_global : (l : Line) (bytes : List ℕ) (p : Program) → words ≡ Some l → files.content l.file ≡ Bytes bytes → IsOneGlobal (read_of bytes) p
+      → TookPart out (one_global_decision l p).output

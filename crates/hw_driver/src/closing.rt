@@ -1,11 +1,10 @@
 ghost use Rattle.std.specs.Prelude.{◌≡◌, ◌++◌, IfOk, string_bytes};
-ghost use Rattle.hw_driver.specs.Closing.{access_word, access_line, access_text, chain_text, place_text, pointer_text, memory_text, end_text, granule_text, unmapped_line, found_line, report_lines, ended_line, unsupported_line};
+ghost use Rattle.hw_driver.specs.Closing.{access_word, access_line, access_text, chain_text, place_text, pointer_text, memory_text, end_text, granule_text, unmapped_line, found_line, report_lines, ended_line};
 ghost use Rattle.hw_driver.specs.Views.{failed_view};
 
 use crate::machine::FailedCheck;
 use hw_base::{Access, ByteList, OutOfMemory};
 use hw_shadow::Mismatch;
-use ir_core::{Fault, Refusal};
 use std::alloc::Global;
 
 /// The line of a run that returned 0 in this step.
@@ -14,18 +13,6 @@ pub fn ended_text(alloc: Global, step: u64) -> Result<ByteList, OutOfMemory>
 {
     let text = format!(in alloc; "ended: exit 0, step {step}\n")?;
     Ok(ByteList::from_vec(text.into_bytes()))
-}
-
-/// The line of a text that isn't accepted.
-pub fn unsupported_text(alloc: Global) -> Result<ByteList, OutOfMemory>
-    ensures { IfOk result (λ text. text ≡ unsupported_line) }
-{
-    let refusal = Refusal {
-        fault: Fault::Unsupported,
-        line: 1,
-        column: 1,
-    };
-    refusal.text(alloc)
 }
 
 fn access_word(access: Access) -> &'static str

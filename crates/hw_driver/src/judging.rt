@@ -1,21 +1,32 @@
-ghost use Rattle.std.specs.Prelude.{◌≡◌, ◌≤◌, ◌^◌, length, IfOk, []};
+ghost use Rattle.std.specs.Prelude.{◌≡◌, ◌≤◌, ◌^◌, ℕ, List, length, IfOk, [], None};
+ghost use Rattle.built_rows.specs.Laws.{DeclaresAreThere};
+ghost use Rattle.built_rows.specs.Unbuilt.{unbuilt};
 ghost use Rattle.hw_ports.specs.Content.{AddsRead, failed_after};
 ghost use Rattle.hw_driver.specs.Line.{line};
-ghost use Rattle.hw_driver.specs.LineView.{texts, line_view};
+ghost use Rattle.hw_driver.specs.LineView.{texts, given_view, line_view};
 ghost use Rattle.hw_driver.specs.Decided.{decision_view};
-ghost use Rattle.hw_driver.specs.Views.{ran_view};
-ghost use Rattle.hw_driver.specs.Answer.{Decides, files_change, JudgesFile, JudgesText, Whole, ending_decision, refused_decision, given_word, tag_under};
+ghost use Rattle.hw_driver.specs.Views.{ending_view, ran_view, program_view};
+ghost use Rattle.hw_driver.specs.Answer.{Decides, files_change, JudgesFile, JudgesText, Whole, IsOther, too_long, IsRunOf, JudgesModule, bounded_decision, one_global_decision, refused_decision, given_word, tag_under};
 
-use crate::closing::{ended_text, report_text, unsupported_text};
+use crate::closing::{ended_text, report_text};
+use crate::command::Command;
 use crate::decision::{Decision, Text};
+use crate::options::{options_of, steps_or};
+use crate::program::Program;
 use crate::reading::read_program;
 use crate::runner::{Ending, Ran};
 use crate::running::run;
-use crate::words::{Command, line_of};
+use crate::words::line_of;
+use built_rows::unbuilt;
 use hw_base::{ByteList, MOST_TEXT, OutOfMemory, Status};
 use hw_ports::{FileError, FileText, Files};
+use hw_run::{run_gathered, spent_line};
 use hw_tags::{Words, WordsSpec, global_tag};
+use ir_accept::accept;
+use ir_check_flow::Checked;
+use ir_core::{Fault, Limit, ReadError, Refusal};
 use std::alloc::Global;
+use tag_insert::instrument;
 
 // A decision without output that takes no memory.
 fn plain_decision(alloc: Global, status: Status, text: Text) -> Decision
@@ -30,12 +41,27 @@ fn plain_decision(alloc: Global, status: Status, text: Text) -> Decision
     }
 }
 
-fn refused(alloc: Global) -> Result<Decision, OutOfMemory>
-    ensures { IfOk result (λ d. decision_view d ≡ refused_decision) }
+// A text that is refused.
+fn refused(alloc: Global, refusal: &Refusal) -> Result<Decision, OutOfMemory>
+    ensures { IfOk result (λ d. decision_view d ≡ refused_decision refusal.now) }
 {
-    let text = Text::Own(unsupported_text(alloc)?);
+    let text = Text::Own(refusal.text(alloc)?);
     Ok(plain_decision(alloc, Status::Refused, text))
 }
+
+// A text that is too long.
+fn too_long(alloc: Global) -> Result<Decision, OutOfMemory>
+    ensures { IfOk result (λ d. decision_view d ≡ refused_decision too_long) }
+{
+    let refusal = Refusal {
+        fault: Fault::TooLarge(Limit::Text),
+        line: 1,
+        column: 1,
+    };
+    refused(alloc, &refusal)
+}
+
+// ---- texts of one global
 
 // The tag word that is given, or else the first of seed 1.
 fn word_or_first(alloc: Global, word: Option<u8>) -> Result<u8, OutOfMemory>
@@ -54,18 +80,26 @@ fn word_or_first(alloc: Global, word: Option<u8>) -> Result<u8, OutOfMemory>
 fn tag_of(alloc: Global, command: &Command<'_>) -> Result<u8, OutOfMemory>
     ensures { IfOk result (λ tag. tag ≡ tag_under (line_view command.now)) }
 {
-    Ok(global_tag(word_or_first(alloc, command.word)?, 0))
+    Ok(global_tag(word_or_first(alloc, command.given.word)?, 0))
 }
 
-// What a run that ended so comes to.
-fn judge_run(alloc: Global, ran: Ran) -> Result<Decision, OutOfMemory>
-    ensures { IfOk result (λ d. decision_view d ≡ ending_decision (ran_view ran)) }
+// The status and the closing text of a run under a bound.
+fn closing_of(alloc: Global, bound: u64, ending: &Ending) -> Result<(Status, ByteList), OutOfMemory>
+    ensures { IfOk result (λ closing. (output : List ℕ) → bounded_decision bound (ending_view output ending.now) ≡ record { status = closing.0; output = output; text = closing.1 }) }
+{
+    match ending {
+        Ending::Exited(step) => Ok((Status::Ended, ended_text(alloc, *step)?)),
+        Ending::Failed(failed) => Ok((Status::Reported, report_text(alloc, failed)?)),
+        Ending::Stopped => Ok((Status::Spent, spent_line(alloc, bound)?)),
+    }
+}
+
+// What a run that ended so under a bound comes to.
+fn judge_run(alloc: Global, bound: u64, ran: Ran) -> Result<Decision, OutOfMemory>
+    ensures { IfOk result (λ d. decision_view d ≡ bounded_decision bound (ran_view ran)) }
 {
     let Ran { output, ending } = ran;
-    let (status, text) = match ending {
-        Ending::Exited(step) => (Status::Ended, ended_text(alloc, step)?),
-        Ending::Failed(failed) => (Status::Reported, report_text(alloc, &failed)?),
-    };
+    let (status, text) = closing_of(alloc, bound, &ending)?;
     let text = Text::Own(text);
     Ok(Decision {
         status,
@@ -74,18 +108,81 @@ fn judge_run(alloc: Global, ran: Ran) -> Result<Decision, OutOfMemory>
     })
 }
 
+// What a program of one global comes to.
+fn judge_program(
+    alloc: Global,
+    command: &Command<'_>,
+    program: &Program,
+) -> Result<Decision, OutOfMemory>
+    ensures { IfOk result (λ d. decision_view d ≡ one_global_decision (line_view command.now) (program_view program.now)) }
+{
+    let tag = tag_of(alloc, command)?;
+    let bound = steps_or(command.given);
+    let ran = run(alloc, bound, tag, program)?;
+    judge_run(alloc, bound, ran)
+}
+
+// ---- all other texts
+
+// What an accepted module that the machine runs comes to.
+fn judge_module(
+    alloc: Global,
+    command: &Command<'_>,
+    checked: &Checked,
+) -> Result<Decision, OutOfMemory>
+    requires declares { DeclaresAreThere checked.now }
+    requires built { unbuilt checked.now ≡ None }
+    ensures { IfOk result (λ d. IsRunOf (line_view command.now) checked.now (decision_view d)) }
+{
+    let code = instrument(alloc, checked)?;
+    let options = options_of(alloc, command)?;
+    let gathered = run_gathered(alloc, checked.module(), code, &options)?;
+    Ok(Decision {
+        status: gathered.status,
+        output: gathered.output,
+        text: Text::Own(gathered.text),
+    })
+}
+
+// What an accepted module comes to.
+fn judge_checked(
+    alloc: Global,
+    command: &Command<'_>,
+    checked: &Checked,
+) -> Result<Decision, OutOfMemory>
+    requires { DeclaresAreThere checked.now }
+    ensures { IfOk result (λ d. JudgesModule (line_view command.now) checked.now (decision_view d)) }
+{
+    match unbuilt(checked.module()) {
+        Some(refusal) => refused(alloc, &refusal),
+        None => judge_module(alloc, command, checked),
+    }
+}
+
+// What a text comes to that isn't of the form of one global.
+fn judge_other(alloc: Global, command: &Command<'_>, text: &[u8]) -> Result<Decision, OutOfMemory>
+    requires other { IsOther (Whole text.now) }
+    ensures { IfOk result (λ d. JudgesText (line_view command.now) (Whole text.now) (decision_view d)) }
+{
+    match accept(alloc, text) {
+        Ok(checked) => judge_checked(alloc, command, &checked),
+        Err(ReadError::Refused(refusal)) => refused(alloc, &refusal),
+        Err(ReadError::OutOfMemory) => Err(OutOfMemory),
+    }
+}
+
 // What a command and a text come to.
 fn judge_text(alloc: Global, command: &Command<'_>, text: &[u8]) -> Result<Decision, OutOfMemory>
     ensures { IfOk result (λ d. JudgesText (line_view command.now) (Whole text.now) (decision_view d)) }
 {
-    let Some(program) = read_program(alloc, text)? else {
-        return refused(alloc);
-    };
-    let tag = tag_of(alloc, command)?;
-    judge_run(alloc, run(alloc, tag, &program)?)
+    match read_program(alloc, text)? {
+        Some(program) => judge_program(alloc, command, &program),
+        None => judge_other(alloc, command, text),
+    }
 }
 
 // What a command and its file come to.
+#[tactic(auto, using(crate::proofs::Judged::judged_too_long))]
 fn judge_file<F: Files>(
     alloc: Global,
     command: &Command<'_>,
@@ -98,7 +195,7 @@ fn judge_file<F: Files>(
     let mut text = Vec::new(alloc);
     let judged = match files.read(alloc, command.file, MOST_TEXT, &mut text) {
         Ok(FileText::Whole) => judge_text(alloc, command, &text),
-        Ok(FileText::Longer) => refused(alloc),
+        Ok(FileText::Longer) => too_long(alloc),
         Err(error) => return Err(error),
     };
     match judged {

@@ -4,11 +4,13 @@
 #![tactic(auto)]
 
 mod closing;
+mod command;
 mod decision;
 mod delivery;
 mod judging;
 mod laws;
 mod machine;
+mod options;
 mod program;
 mod reader;
 mod reading;

@@ -1,11 +1,12 @@
 use crate::machine::FailedCheck;
 use hw_base::ByteList;
 
-/// How a run ended: at the return of 0 in this step, or at a failed check.
+/// How a run ended: at the return of 0 in this step, at a failed check, or at the bound on its steps.
 #[derive(Clone, Copy)]
 pub enum Ending {
     Exited(u64),
     Failed(FailedCheck),
+    Stopped,
 }
 
 /// What a run printed, and how it ended.

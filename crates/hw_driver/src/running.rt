@@ -1,6 +1,7 @@
-ghost use Rattle.std.specs.Prelude.{◌≡◌, ◌<◌, ◌≤◌, ◌+◌, ◌^◌, IfOk, OnOk, OnSome, IsSome, option_map};
-ghost use Rattle.hw_driver.specs.Machine.{machine_start, machine_step, machine_store, machine_load, machine_run, failed_check, check};
-ghost use Rattle.hw_driver.specs.Views.{step_view, ran_view, program_view, failed_view};
+ghost use Rattle.std.specs.Prelude.{◌≡◌, ◌<◌, ◌≤◌, ◌+◌, ◌^◌, [], IfOk, OnOk, OnSome, IsSome, None, Some, option_map};
+ghost use Rattle.hw_driver.specs.Bounded.{Fits, end_at, bounded_from, bounded_run};
+ghost use Rattle.hw_driver.specs.Machine.{machine_start, machine_step, machine_store, machine_load, failed_check, check, Goes};
+ghost use Rattle.hw_driver.specs.Views.{step_view, ending_view, ran_view, program_view, failed_view};
 
 use crate::machine::{FailedCheck, byte_at, check_byte, global_pointer, set_byte};
 use crate::program::{Group, Program};
@@ -125,18 +126,81 @@ impl Machine {
             ending,
         }
     }
+
+    // How the run ends with a load whose steps aren't all within the bound: its access is checked, and nothing is printed.
+    #[tactic(auto, unfolding(crate::specs::Machine::machine_load))]
+    fn last_load(&self, bound: u64, number: u64) -> Ending
+        requires step { self.now.step < 2 ^ 32 }
+        requires past { bound < self.now.step + 3 }
+        ensures { Some (ending_view self.now.output result) ≡ end_at bound self.now (machine_load self.now number) }
+    {
+        match self.check(Access::Read, number) {
+            Some(failed) => Ending::Failed(failed),
+            None => Ending::Stopped,
+        }
+    }
+
+    // How the run ends with a group whose steps aren't all within the bound, of which one is left; none if they are.
+    fn last_group(&self, bound: u64, group: Group) -> Option<Ending>
+        requires step { self.now.step < 2 ^ 32 }
+        requires left { self.now.step < bound }
+        ensures end { OnSome result (option_map (ending_view self.now.output) result ≡ end_at bound self.now (machine_step self.now group)) }
+        ensures fits { result ≡ None → Fits bound self.now group }
+    {
+        match group {
+            Group::Load(offset) if bound < self.step + 3 => {
+                let number = global_pointer(self.tag, offset);
+                Some(self.last_load(bound, number))
+            }
+            _ => None,
+        }
+    }
+
+    // A group under a bound, of which a step is left: how the run ends with it, or none if it goes on.
+    fn bounded_step(&mut self, bound: u64, group: Group) -> Result<Option<Ending>, OutOfMemory>
+        requires step { self.old.step < 2 ^ 32 }
+        requires left { self.old.step < bound }
+        ensures end { IfOk result (λ ending. option_map (ending_view self.old.output) ending ≡ end_at bound self.old (machine_step self.old group)) }
+        ensures goes { IfOk result (λ ending. ending ≡ None → Goes self.new ≡ machine_step self.old group) }
+        ensures ended { IfOk result (λ ending. IsSome ending → self.new ≡ self.old) }
+        ensures count { OnOk result (self.new.step ≤ self.old.step + 3) }
+    {
+        if let Some(ending) = self.last_group(bound, group) {
+            return Ok(Some(ending));
+        }
+        match self.step(group)? {
+            Some(failed) => Ok(Some(Ending::Failed(failed))),
+            None => Ok(None),
+        }
+    }
+
+    // The run is over, if a step is left for its return.
+    #[tactic(auto, unfolding(crate::specs::Bounded::bounded_from))]
+    fn last(self, bound: u64) -> Ran
+        requires { self.step < 2 ^ 32 }
+        ensures { ran_view result ≡ bounded_from bound [] self }
+    {
+        if self.step < bound {
+            let step = self.step + 1;
+            self.ended(Ending::Exited(step))
+        } else {
+            self.ended(Ending::Stopped)
+        }
+    }
 }
 
-/// Runs a program whose global has this tag.
-pub fn run(alloc: Global, tag: u8, program: &Program) -> Result<Ran, OutOfMemory>
-    ensures { IfOk result (λ ran. ran_view ran ≡ machine_run tag (program_view program.now)) }
+/// Runs a program whose global has this tag, under a bound on its steps.
+pub fn run(alloc: Global, bound: u64, tag: u8, program: &Program) -> Result<Ran, OutOfMemory>
+    ensures { IfOk result (λ ran. ran_view ran ≡ bounded_run bound tag (program_view program.now)) }
 {
     let mut machine = Machine::new(alloc, tag, program.size)?;
     for group in program.groups.as_slice() {
-        if let Some(failed) = machine.step(*group)? {
-            return Ok(machine.ended(Ending::Failed(failed)));
+        if machine.step >= bound {
+            return Ok(machine.ended(Ending::Stopped));
+        }
+        if let Some(ending) = machine.bounded_step(bound, *group)? {
+            return Ok(machine.ended(ending));
         }
     }
-    let step = machine.step + 1;
-    Ok(machine.ended(Ending::Exited(step)))
+    Ok(machine.last(bound))
 }

@@ -3,7 +3,7 @@ ghost use Rattle.hw_ports.specs.Content.{Bytes};
 ghost use Rattle.hw_driver.specs.Line.{Line, line};
 ghost use Rattle.hw_driver.specs.LineView.{texts};
 ghost use Rattle.hw_driver.specs.Program.{Program};
-ghost use Rattle.hw_driver.specs.Answer.{Answers, IsAccepted, files_change, read_of, sink_change, tag_under};
+ghost use Rattle.hw_driver.specs.Answer.{Answers, IsOneGlobal, bound_under, files_change, read_of, sink_change, tag_under};
 ghost use Rattle.hw_driver.specs.Lines.{GivesEach, IsLine};
 ghost use Rattle.hw_driver.specs.Promises.{AnswersRises, Closes, HadNoFault, HasItsCause, IsExact, ReadsItsFile};
 ghost use Rattle.hw_driver.specs.Detection.{Detects};
@@ -34,9 +34,11 @@ fn answer<F: Files, O: Sink, E: Sink>(
 /// first, then the file (at most 16 MiB), then its text is refused or run; the output goes to `out` when the run has ended,
 /// and the closing text to `err`, line by line. All memory is taken before the first write.
 ///
-/// `run FILE` and `run FILE --tags W` are commands, where FILE doesn't begin with a dash and W is a number from 0 to 255
-/// in decimal digits. A text is accepted if it spells a program of one global; the run checks each access by tags as
-/// Clang's HardwareAssistedAddressSanitizer does, and ends with a report at the first check that fails.
+/// `run FILE` is a command, where FILE doesn't begin with a dash, and after it may come `--tags W` and `--steps N` in any order, each
+/// at most once. W is a number from 0 to 255 and N one from 1 to 1,000,000,000, in decimal digits. A text is run if it is an
+/// accepted module of LLVM IR all of whose parts the machine runs, or if it spells a program of one global; any other text is
+/// refused at its first fault. A run checks each access by tags as Clang's HardwareAssistedAddressSanitizer does, and ends with a
+/// report at the first check that fails; it ends after N steps at the latest.
 pub fn hwasan<F: Files, I: Source, O: Sink, E: Sink>(
     alloc: Global,
     words: &[String],
@@ -77,12 +79,13 @@ pub fn hwasan<F: Files, I: Source, O: Sink, E: Sink>(
     // Each piece that is written to `err` is a line, or the rest of one.
     ensures lines { GivesEach IsLine (E.pieces err.old) (E.pieces err.new) }
 
-    // A report comes exactly at the first violation, and is of that access.
+    // A report of a program of one global comes exactly at its first violation, and is of that access. What a module's run says of its
+    // violations is a part of what is decided on.
     ensures detects { (l : Line) (bytes : List ℕ) (p : Program) → line (texts words.now) ≡ Some l
-        → F.content files.old l.file ≡ Bytes bytes → IsAccepted (read_of bytes) p
+        → F.content files.old l.file ≡ Bytes bytes → IsOneGlobal (read_of bytes) p
         → HadNoFault (line (texts words.now)) (files_change F.content F.reads F.failed files.old files.new)
         (sink_change O.taken O.faults out.old out.new) (sink_change E.taken E.faults err.old err.new) result
-        → Detects (tag_under l) p result (sink_change O.taken O.faults out.old out.new) (sink_change E.taken E.faults err.old err.new) }
+        → Detects (bound_under l) (tag_under l) p result (sink_change O.taken O.faults out.old out.new) (sink_change E.taken E.faults err.old err.new) }
 {
     let _ = input;
     answer(alloc, words, files, out, err)

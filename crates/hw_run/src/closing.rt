@@ -52,8 +52,9 @@ pub(crate) fn ended_line(alloc: Global, value: i32, step: u64) -> Result<ByteLis
     Ok(ByteList::from_vec(text.into_bytes()))
 }
 
+/// The closing text of a run that made all the steps that its bound allows.
 #[tactic(auto, unfolding(crate::specs::Closing::spent_line))]
-pub(crate) fn spent_line(alloc: Global, bound: u64) -> Result<ByteList, OutOfMemory>
+pub fn spent_line(alloc: Global, bound: u64) -> Result<ByteList, OutOfMemory>
     ensures { IfOk result (λ text. text ≡ spent_line bound) }
 {
     let text = format!(in alloc; "spent: step {bound}\n")?;

@@ -8,7 +8,7 @@ mod job;
 mod sites;
 mod steps;
 
-pub use closing::closing_text;
+pub use closing::{closing_text, spent_line};
 pub use ends::{Gathered, RunEnd, StepsMade};
 pub use job::run_gathered;
 pub use steps::run_steps;

@@ -1,7 +1,10 @@
 //! The program over files, input and output in memory. Every expected text is worked out by hand from the forms of
 //! the closing texts, the address map (the global from 10000, the stacks from 10000000 to 11000000, the heap from
 //! 20000000 to 21000000, in hexadecimal) and the formula of the global's tag.
+mod bounds;
+mod clang;
 mod faults;
+mod modules;
 mod reports;
 
 use hw_base::OutOfMemory;
@@ -13,7 +16,11 @@ use std::test::Fail;
 
 const USAGE: &str = "usage: hwasan_ir MODE FILE [options]\n";
 
-const NOT_ACCEPTED: &str = "refused: 3 Unsupported at 1:1\n";
+/// The first part that the machine doesn't run is at the start of the text: the global.
+const GLOBAL_FIRST: &str = "refused: 3 Unsupported at 1:1\n";
+
+/// The most bytes that a sink takes.
+const ROOM: u64 = 65_536;
 
 /// The words of a run whose global has the tag 13, in hexadecimal.
 const TAG_13: [&str; 4] = ["run", "t.ll", "--tags", "3"];
@@ -62,7 +69,7 @@ fn one_call(alloc: Global, call: u64) -> Result<CallList, OutOfMemory> {
 }
 
 fn sink(alloc: Global, piece: u32, call: u64) -> Result<MemSink, OutOfMemory> {
-    MemSink::new(alloc, 4096, piece.max(1), one_call(alloc, call)?)
+    MemSink::new(alloc, ROOM, piece.max(1), one_call(alloc, call)?)
 }
 
 /// The one file is `t.ll`, with this text.
@@ -204,9 +211,20 @@ fn nothing_printed_is_no_write(rt: HostRuntime) -> Result<(), Fail> {
     expect(&rt, &TAG_13, text.as_bytes(), &ports, expected)
 }
 
+/// Asserts that the words are no command: they are answered by the usage line.
+fn expect_usage<R: AllocGlobal + Abort>(rt: &R, words: &[&str]) -> Result<(), Fail> {
+    let text = store_and_print(rt.alloc())?;
+    expect(
+        rt,
+        words,
+        text.as_bytes(),
+        &NO_FAULT,
+        (2, b"", USAGE.as_bytes()),
+    )
+}
+
 #[test]
 fn other_words_are_answered_by_the_usage_line(rt: HostRuntime) -> Result<(), Fail> {
-    let text = store_and_print(rt.alloc())?;
     let lines: [&[&str]; 16] = [
         &[],
         &["run"],
@@ -226,53 +244,75 @@ fn other_words_are_answered_by_the_usage_line(rt: HostRuntime) -> Result<(), Fai
         &["run", "t.ll", "--tags", "3", "x"],
     ];
     for words in lines {
-        expect(
-            &rt,
-            words,
-            text.as_bytes(),
-            &NO_FAULT,
-            (2, b"", USAGE.as_bytes()),
-        )?;
+        expect_usage(&rt, words)?;
     }
     Ok(())
 }
 
 #[test]
-fn other_texts_are_refused(rt: HostRuntime) -> Result<(), Fail> {
+fn other_bounds_are_answered_by_the_usage_line(rt: HostRuntime) -> Result<(), Fail> {
+    let lines: [&[&str]; 14] = [
+        &["run", "t.ll", "--steps"],
+        &["run", "t.ll", "--steps", ""],
+        &["run", "t.ll", "--steps", "0"],
+        &["run", "t.ll", "--steps", "1000000001"],
+        &["run", "t.ll", "--steps", "18446744073709551617"],
+        &["run", "t.ll", "--steps", "+3"],
+        &["run", "t.ll", "--steps", "-3"],
+        &["run", "t.ll", "--steps", "3a"],
+        &["run", "--steps", "3", "t.ll"],
+        &["run", "t.ll", "--steps", "3", "--steps", "3"],
+        &["run", "t.ll", "--tags", "3", "--tags", "3"],
+        &["run", "t.ll", "--steps", "3", "--tags"],
+        &["run", "t.ll", "--tags", "3", "--steps"],
+        &["run", "t.ll", "--steps", "3", "--tags", "3", "--steps", "3"],
+    ];
+    for words in lines {
+        expect_usage(&rt, words)?;
+    }
+    Ok(())
+}
+
+/// Asserts that the text is refused with this line.
+fn expect_refused<R: AllocGlobal + Abort>(rt: &R, text: &[u8], line: &str) -> Result<(), Fail> {
+    expect(rt, &TAG_13, text, &NO_FAULT, (3, b"", line.as_bytes()))
+}
+
+/// They are modules all the same, each with a global.
+#[test]
+fn texts_of_nearly_one_global_are_refused_at_the_global(rt: HostRuntime) -> Result<(), Fail> {
     let alloc = rt.alloc();
     let texts = [
-        format!(in alloc; "")?,
         format!(in alloc; "{}\n", store_and_print(alloc)?)?,
         program(alloc, 0, &[])?,
         program(alloc, 24, &[])?,
         program(alloc, 4112, &[])?,
-        program(alloc, 16, &[store(alloc, 256, 0)?])?,
         program(alloc, 16, &[store(alloc, 1, 4_294_967_296)?])?,
         program(alloc, 16, &[load(alloc, 1, 0)?])?,
     ];
     for text in &texts {
-        expect(
-            &rt,
-            &TAG_13,
-            text.as_bytes(),
-            &NO_FAULT,
-            (3, b"", NOT_ACCEPTED.as_bytes()),
-        )?;
+        expect_refused(&rt, text.as_bytes(), GLOBAL_FIRST)?;
     }
     Ok(())
 }
 
+/// A fault is told before a part that the machine doesn't run: the value is the tenth character of line 4.
 #[test]
-fn a_text_of_16_mib_or_more_is_refused(rt: HostRuntime) -> Result<(), Fail> {
-    for size in [16_777_216, 16_777_217] {
+fn a_value_that_is_no_byte_is_refused_at_its_place(rt: HostRuntime) -> Result<(), Fail> {
+    let text = program(rt.alloc(), 16, &[store(rt.alloc(), 256, 0)?])?;
+    expect_refused(&rt, text.as_bytes(), "refused: 4 BadType at 4:10\n")
+}
+
+/// Without a `main` a text is refused at its end. More than 16 MiB aren't read.
+#[test]
+fn a_text_without_main_is_refused_at_its_end(rt: HostRuntime) -> Result<(), Fail> {
+    expect_refused(&rt, b"", "refused: 9 NoMain at 1:1\n")?;
+    for (size, line) in [
+        (16_777_216, "refused: 9 NoMain at 1:16777217\n"),
+        (16_777_217, "refused: 10 TooLarge Text at 1:1\n"),
+    ] {
         let text = vec![in rt.alloc(); b' '; size]?;
-        expect(
-            &rt,
-            &TAG_13,
-            &text,
-            &NO_FAULT,
-            (3, b"", NOT_ACCEPTED.as_bytes()),
-        )?;
+        expect_refused(&rt, &text, line)?;
     }
     Ok(())
 }

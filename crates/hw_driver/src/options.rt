@@ -1,0 +1,56 @@
+ghost use Rattle.std.specs.Prelude.{◌≡◌, IfOk};
+ghost use Rattle.hw_driver.specs.Answer.{tag_words, steps_or, IsOptionsOf};
+ghost use Rattle.hw_driver.specs.LineView.{line_view};
+
+use crate::command::{Command, Given};
+use hw_base::{ByteList, OutOfMemory};
+use hw_tags::{Options, WordsSpec};
+use std::alloc::Global;
+
+/// The bound on the steps of a run, unless another is given.
+pub const STEPS: u64 = 10_000_000;
+
+/// The size of the heap in bytes.
+pub const HEAP: u64 = 16_777_216;
+
+/// How many of its last ended frames, and of its last freed blocks, each task remembers.
+pub const RING: u32 = 1_023;
+
+// The tag words: the one that is given, again and again, or else those of seed 1.
+fn tag_words(alloc: Global, word: Option<u8>) -> Result<WordsSpec, OutOfMemory>
+    ensures { IfOk result (λ words. words ≡ tag_words word) }
+{
+    match word {
+        None => Ok(WordsSpec::Seed(1)),
+        Some(word) => {
+            let mut list = ByteList::new(alloc);
+            list.push(word)?;
+            Ok(WordsSpec::Cycle(list))
+        }
+    }
+}
+
+/// The bound on the steps.
+pub fn steps_or(given: Given) -> u64
+    ensures value { result ≡ steps_or given.steps }
+{
+    match given.steps {
+        None => STEPS,
+        Some(steps) => steps,
+    }
+}
+
+/// The options of a run under a command.
+pub fn options_of(alloc: Global, command: &Command<'_>) -> Result<Options, OutOfMemory>
+    ensures { IfOk result (λ options. IsOptionsOf (line_view command.now) options) }
+{
+    let tags = tag_words(alloc, command.given.word)?;
+    let steps = steps_or(command.given);
+    Ok(Options {
+        tags,
+        turns: WordsSpec::Seed(1),
+        steps,
+        heap: HEAP,
+        ring: RING,
+    })
+}
