@@ -290,6 +290,54 @@ fn texts_with_a_fault_are_refused_at_its_place(rt: HostRuntime) -> Result<(), Fa
     Ok(())
 }
 
+/// The sum 127 + 1 in 8 bits overflows: its low bits are printed, and the overflow is the exit value.
+const OVERFLOWING: &str = "declare { i8, i1 } @llvm.sadd.with.overflow.i8(i8, i8)
+declare i32 @putchar(i32)
+define i32 @main() {
+%A = call { i8, i1 } @llvm.sadd.with.overflow.i8(i8 127, i8 1)
+%B = extractvalue { i8, i1 } %A, 0
+%W = zext i8 %B to i32
+%R = call i32 @putchar(i32 %W)
+%C = extractvalue { i8, i1 } %A, 1
+%V = zext i1 %C to i32
+ret i32 %V
+}
+";
+
+#[test]
+fn a_call_may_give_a_pair(rt: HostRuntime) -> Result<(), Fail> {
+    let expected = (0, b"\x80".as_slice(), b"ended: exit 1, step 7\n".as_slice());
+    expect(&rt, &RUN, OVERFLOWING.as_bytes(), &NO_FAULT, expected)
+}
+
+/// Two values change places on the way back to the block.
+const SWAPPING: &str = "declare i32 @putchar(i32)
+define i32 @main() {
+entry:
+  br label %loop
+loop:
+  %a = phi i32 [ 65, %entry ], [ %b, %loop ]
+  %b = phi i32 [ 66, %entry ], [ %a, %loop ]
+  %i = phi i32 [ 0, %entry ], [ %j, %loop ]
+  %r = call i32 @putchar(i32 %a)
+  %j = add i32 %i, 1
+  %t = icmp ult i32 %j, 4
+  br i1 %t, label %loop, label %done
+done:
+  ret i32 0
+}
+";
+
+#[test]
+fn phis_are_read_at_once(rt: HostRuntime) -> Result<(), Fail> {
+    let expected = (
+        0,
+        b"ABAB".as_slice(),
+        b"ended: exit 0, step 18\n".as_slice(),
+    );
+    expect(&rt, &RUN, SWAPPING.as_bytes(), &NO_FAULT, expected)
+}
+
 #[test]
 fn a_missing_file_is_a_file_fault(rt: HostRuntime) -> Result<(), Fail> {
     expect(
