@@ -1,5 +1,5 @@
 -- The global variables of a module, and when two of its types are one for their first values.
-use Rattle.std.specs.Prelude.{ℕ, ◌≡◌, ◌↔◌, List, [], ◌∷◌, ◌++◌, length, Bool, unwrap_or, is_some}
+use Rattle.std.specs.Prelude.{ℕ, ◌≡◌, ◌≢◌, ◌↔◌, List, [], ◌∷◌, ◌++◌, length, Bool, unwrap_or, is_some}
 use Rattle.ir_core.specs.declared.types.IrType.{IrType}
 use Rattle.ir_core.specs.declared.ir_module.GlobalVar.{GlobalVar}
 use Rattle.ir_core.specs.declared.ir_module.Module.{Module}
@@ -15,9 +15,11 @@ use Rattle.ir_type_numbers.specs.SameTypes.{IsSame, HasLayout}
 use Rattle.ir_first_values.specs.Tables.{Tables}
 use Rattle.ir_first_values.specs.FirstValues.{first_value}
 
--- these are classes of the types: two types that don't hold themselves are one exactly if their classes are equal
+-- these are classes of the types: two types that don't hold themselves are one exactly if their classes are equal, and a type that
+-- holds itself has class 0, which no other type has
 pub record AreClasses (types : List IrType) (fields : List ℕ) (named : List Bool) (classes : List ℕ) : Type 0 where
   pub each : length classes ≡ length types
+  pub some : (a : ℕ) → (number_at classes a ≢ 0) ↔ HasLayout types fields a
   pub same : (a b : ℕ) → HasLayout types fields a → HasLayout types fields b → (number_at classes a ≡ number_at classes b) ↔ IsSame types fields named a b
 
 -- what first values are made from
