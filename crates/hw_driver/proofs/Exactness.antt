@@ -6,8 +6,8 @@ use Rattle.hw_base.specs.declared.endings.Status.TheVariants.{Memory}
 use Rattle.hw_ports.specs.Content.{Content, Bytes}
 use Rattle.hw_driver.specs.Line.{Line}
 use Rattle.hw_driver.specs.Program.{Program}
-use Rattle.hw_driver.specs.Answer.{Decision, FileRead, FilesChange, OneReadFailed, Whole, TooLong, ReadsAs, IsOneGlobal, read_of, JudgesText, JudgesFile, Judges, file_read, file_failed, memory_failed, Decides, SinkChange, Delivers, delivered, out_failed, err_failed, Answers, one_global_decision, bad_words_decision}
-use Rattle.hw_driver.specs.Promises.{FileRose, HadNoFault, Shows, IsExact}
+use Rattle.hw_driver.specs.Answer.{Decision, FileRead, FilesChange, OneReadFailed, Whole, TooLong, ReadsAs, IsOneGlobal, IsOther, read_of, JudgesText, JudgesFile, Judges, file_read, file_failed, memory_failed, Decides, SinkChange, Delivers, delivered, out_failed, err_failed, Answers, one_global_decision, bad_words_decision}
+use Rattle.hw_driver.specs.Promises.{FileRose, HadNoFault, Shows, ShowsJudged, ShowsModule, run_shown, refusal_shown, IsExact}
 use Rattle.hw_driver.proofs.Causes.{times-push}
 use Rattle.hw_driver.proofs.Spelling.{program_of-spelling}
 
@@ -74,3 +74,12 @@ Answers-exact words files result out err a h =
       one_global = λ l bytes p some told spelled. subst (λ (x : Decision). Shows x result out err)
           (text_run l (read_of bytes) p a.decision spelled (told_text words files result out err a.decision l bytes some told h all.status a.decided)) all;
     }
+
+-- a text of another form comes to the run of its module, or is refused
+pub judged-module : (l : Line) (read : FileRead) (result : Status) (out err : SinkChange) → IsOther read → ShowsJudged l read result out err → ShowsModule l read result out err
+judged-module l read result out err other s = by_judgement s.decision s.judged s.shows
+  where
+    by_judgement : (d : Decision) → JudgesText l read d → Shows d result out err → ShowsModule l read result out err
+    by_judgement d (inl (inl r)) h = absurd (other r.program r.spelled)
+    by_judgement d (inl (inr r)) h = run_shown d r h
+    by_judgement d (inr r) h = refusal_shown d r h

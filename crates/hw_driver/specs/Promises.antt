@@ -9,7 +9,7 @@ use Rattle.hw_ports.specs.Content.{Bytes}
 use Rattle.hw_driver.specs.Line.{Line}
 use Rattle.hw_driver.specs.Program.{Program}
 use Rattle.hw_driver.specs.Closing.{usage_line, file_fault_line, write_fault_line, memory_line}
-use Rattle.hw_driver.specs.Answer.{Decision, FileRead, FilesChange, ReadsNothing, ReadsOnce, ReadsAs, IsOneGlobal, Runs, Refuses, JudgesText, SinkChange, TookAll, TookFront, read_of, bad_words_decision, one_global_decision}
+use Rattle.hw_driver.specs.Answer.{Decision, FileRead, FilesChange, ReadsNothing, ReadsOnce, ReadsAs, IsOneGlobal, Runs, RunsModule, Refuses, JudgesText, SinkChange, TookAll, TookFront, read_of, bad_words_decision, one_global_decision}
 
 -- how often a name is among these
 abbrev pub times : List ℕ → List (List ℕ) → ℕ
@@ -93,6 +93,12 @@ pub record IsExact (words : Option Line) (files : FilesChange) (result : Status)
   pub judged : (l : Line) (bytes : List ℕ) → words ≡ Some l → files.content l.file ≡ Bytes bytes → ShowsJudged l (read_of bytes) result out err
   pub one_global : (l : Line) (bytes : List ℕ) (p : Program) → words ≡ Some l → files.content l.file ≡ Bytes bytes
       → IsOneGlobal (read_of bytes) p → Shows (one_global_decision l p) result out err
+
+-- What is shown of a text that isn't of one global: the run of its module, of which the detection theorem holds for every input, or its
+-- refusal.
+pub data ShowsModule (l : Line) (read : FileRead) (result : Status) (out err : SinkChange) : Type 0 where
+  run_shown : (d : Decision) → RunsModule l read d → Shows d result out err → ShowsModule l read result out err
+  refusal_shown : (d : Decision) → Refuses read d → Shows d result out err → ShowsModule l read result out err
 
 -- the sink took all of a text, or a front of it before a fault
 abbrev pub TookSome : SinkChange → List ℕ → Type 0

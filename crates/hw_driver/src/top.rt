@@ -3,9 +3,9 @@ ghost use Rattle.hw_ports.specs.Content.{Bytes};
 ghost use Rattle.hw_driver.specs.Line.{Line, line};
 ghost use Rattle.hw_driver.specs.LineView.{texts};
 ghost use Rattle.hw_driver.specs.Program.{Program};
-ghost use Rattle.hw_driver.specs.Answer.{Answers, IsOneGlobal, bound_under, files_change, read_of, sink_change, tag_under};
+ghost use Rattle.hw_driver.specs.Answer.{Answers, IsOneGlobal, IsOther, bound_under, files_change, read_of, sink_change, tag_under};
 ghost use Rattle.hw_driver.specs.Lines.{GivesEach, IsLine};
-ghost use Rattle.hw_driver.specs.Promises.{AnswersRises, Closes, HadNoFault, HasItsCause, IsExact, ReadsItsFile};
+ghost use Rattle.hw_driver.specs.Promises.{AnswersRises, Closes, HadNoFault, HasItsCause, IsExact, ReadsItsFile, ShowsModule};
 ghost use Rattle.hw_driver.specs.Detection.{Detects};
 
 use crate::delivery::deliver;
@@ -79,13 +79,19 @@ pub fn hwasan<F: Files, I: Source, O: Sink, E: Sink>(
     // Each piece that is written to `err` is a line, or the rest of one.
     ensures lines { GivesEach IsLine (E.pieces err.old) (E.pieces err.new) }
 
-    // A report of a program of one global comes exactly at its first violation, and is of that access. What a module's run says of its
-    // violations is a part of what is decided on.
+    // A report of a program of one global comes exactly at its first violation, and is of that access.
     ensures detects { (l : Line) (bytes : List ℕ) (p : Program) → line (texts words.now) ≡ Some l
         → F.content files.old l.file ≡ Bytes bytes → IsOneGlobal (read_of bytes) p
         → HadNoFault (line (texts words.now)) (files_change F.content F.reads F.failed files.old files.new)
         (sink_change O.taken O.faults out.old out.new) (sink_change E.taken E.faults err.old err.new) result
         → Detects (bound_under l) (tag_under l) p result (sink_change O.taken O.faults out.old out.new) (sink_change E.taken E.faults err.old err.new) }
+
+    // Of any other text that isn't refused the run of its module is shown, and the detection theorem holds of that run.
+    ensures detects_in_modules { (l : Line) (bytes : List ℕ) → line (texts words.now) ≡ Some l
+        → F.content files.old l.file ≡ Bytes bytes → IsOther (read_of bytes)
+        → HadNoFault (line (texts words.now)) (files_change F.content F.reads F.failed files.old files.new)
+        (sink_change O.taken O.faults out.old out.new) (sink_change E.taken E.faults err.old err.new) result
+        → ShowsModule l (read_of bytes) result (sink_change O.taken O.faults out.old out.new) (sink_change E.taken E.faults err.old err.new) }
 {
     let _ = input;
     answer(alloc, words, files, out, err)
