@@ -1,0 +1,49 @@
+use super::*;
+use std::test::Fail;
+
+#[test]
+fn numbers_are_read_as_they_were_put(rt: HostRuntime) -> Result<(), Fail> {
+    let mut region = Region::new(rt.alloc(), 40)?;
+    assert_eq!(rt; region.len(), 40);
+    region.put(3, 1, 0xab);
+    region.put(5, 2, 0x0201);
+    region.put(9, 4, 0x0605_0403);
+    region.put(13, 8, 0x0e0d_0c0b_0a09_0807);
+    region.put(23, 16, 0x1e1d_1c1b_1a19_1817_1615_1413_1211_100f);
+    region.put(39, 1, 0xff);
+    assert_eq!(rt; region.get(3, 1), 0xab);
+    assert_eq!(rt; region.get(5, 2), 0x0201);
+    assert_eq!(rt; region.get(5, 1), 1);
+    assert_eq!(rt; region.get(9, 4), 0x0605_0403);
+    assert_eq!(rt; region.get(12, 2), 0x0706);
+    assert_eq!(rt; region.get(13, 8), 0x0e0d_0c0b_0a09_0807);
+    assert_eq!(rt;
+        region.get(23, 16),
+        0x1e1d_1c1b_1a19_1817_1615_1413_1211_100f
+    );
+    assert_eq!(rt;
+        region.get(24, 16),
+        0xff1e_1d1c_1b1a_1918_1716_1514_1312_1110
+    );
+    assert_eq!(rt; region.get(0, 3), 0);
+    assert_eq!(rt; region.get(4, 1), 0);
+    assert_eq!(rt; region.get(21, 2), 0);
+    Ok(())
+}
+
+#[test]
+fn runs_are_filled_and_copied(rt: HostRuntime) -> Result<(), Fail> {
+    let mut region = Region::new(rt.alloc(), 10)?;
+    region.put(1, 4, 0x0403_0201);
+    region.copy(1, 3, 4);
+    assert_eq!(rt; region.get(0, 10), 0x04_0302_0102_0100);
+    region.copy(3, 2, 4);
+    assert_eq!(rt; region.get(0, 10), 0x04_0403_0201_0100);
+    region.fill(8, 2, 0xee);
+    assert_eq!(rt; region.get(0, 10), 0xeeee_0004_0403_0201_0100);
+    region.fill(9, 1, 1);
+    region.fill(0, 0, 7);
+    region.copy(9, 0, 1);
+    assert_eq!(rt; region.get(0, 10), 0x01ee_0004_0403_0201_0101);
+    Ok(())
+}
