@@ -10,12 +10,12 @@ slice_get-take_append (x ∷ xs) ys zero i inside before = absurd (omega (arith,
 slice_get-take_append (x ∷ xs) ys (suc n) zero inside before = refl
 slice_get-take_append (x ∷ xs) ys (suc n) (suc i) inside before = slice_get-take_append xs ys n i (omega (arith, inside)) (omega (arith, before))
 
-slice_get-append_first : (xs ys : List ℕ) (i : ℕ) → i < length xs → slice_get (xs ++ ys) i ≡ slice_get xs i
+pub slice_get-append_first : (xs ys : List ℕ) (i : ℕ) → i < length xs → slice_get (xs ++ ys) i ≡ slice_get xs i
 slice_get-append_first [] ys i before = absurd (omega (arith, before))
 slice_get-append_first (x ∷ xs) ys zero before = refl
 slice_get-append_first (x ∷ xs) ys (suc i) before = slice_get-append_first xs ys i (omega (arith, before))
 
-slice_get-append_second : (xs ys : List ℕ) (k i : ℕ) → k ≡ length xs + i → slice_get (xs ++ ys) k ≡ slice_get ys i
+pub slice_get-append_second : (xs ys : List ℕ) (k i : ℕ) → k ≡ length xs + i → slice_get (xs ++ ys) k ≡ slice_get ys i
 slice_get-append_second [] ys k i e = let same : k ≡ i = omega (arith, e) in ap (λ (j : ℕ). slice_get ys j) same
 slice_get-append_second (x ∷ xs) ys zero i e = absurd (omega (arith, e))
 slice_get-append_second (x ∷ xs) ys (suc k) i e = slice_get-append_second xs ys k i (omega (arith, e))

@@ -47,3 +47,39 @@ fn runs_are_filled_and_copied(rt: HostRuntime) -> Result<(), Fail> {
     assert_eq!(rt; region.get(0, 10), 0x01ee_0004_0403_0201_0101);
     Ok(())
 }
+
+#[test]
+fn bytes_that_were_not_written_are_zero(rt: HostRuntime) -> Result<(), Fail> {
+    let mut region = Region::new(rt.alloc(), 10_000)?;
+    assert_eq!(rt; region.byte(9_999), 0);
+    assert_eq!(rt; region.get(9_984, 16), 0);
+    region.put(4_094, 1, 0xaa);
+    assert_eq!(rt; region.byte(4_094), 0xaa);
+    assert_eq!(rt; region.byte(4_095), 0);
+    assert_eq!(rt; region.byte(4_096), 0);
+    assert_eq!(rt; region.get(4_092, 16), 0xaa_0000);
+    region.copy(4_090, 9_992, 8);
+    assert_eq!(rt; region.get(9_992, 8), 0xaa_0000_0000);
+    assert_eq!(rt; region.byte(9_996), 0xaa);
+    Ok(())
+}
+
+#[test]
+fn far_bytes_are_filled(rt: HostRuntime) -> Result<(), Fail> {
+    let mut region = Region::new(rt.alloc(), 10_000)?;
+    region.fill(9_998, 2, 7);
+    assert_eq!(rt; region.get(9_996, 4), 0x0707_0000);
+    assert_eq!(rt; region.byte(0), 0);
+    assert_eq!(rt; region.len(), 10_000);
+    Ok(())
+}
+
+#[test]
+fn zeros_are_filled(rt: HostRuntime) -> Result<(), Fail> {
+    let mut region = Region::new(rt.alloc(), 5_000)?;
+    region.fill(16, 8, 0);
+    region.put(4_990, 4, 0x0707_0707);
+    region.fill(4_992, 8, 0);
+    assert_eq!(rt; region.get(4_988, 8), 0x0707_0000);
+    Ok(())
+}
