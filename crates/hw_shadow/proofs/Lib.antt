@@ -1,2 +1,3 @@
 pub mod ObjectTagLemmas
+pub mod ShadowLemmas
 pub mod TagRuleLemmas

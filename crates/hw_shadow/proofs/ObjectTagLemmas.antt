@@ -1,5 +1,5 @@
 -- Laws of an object's tags: how many there are, and what each is.
-use Rattle.std.proofs.Common.{◌≡◌, ℕ, zero, suc, ◌+◌, ◌-◌, ◌*◌, ◌/◌, ◌%◌, ◌<◌, ◌≤◌, Bool, true, false, [], ◌∷◌, length, get_or, Some, refl, sym, ◌∙◌, ap, inl, inr, arith, replicate, length-append}
+use Rattle.std.proofs.Common.{◌≡◌, ◌≢◌, ℕ, zero, suc, ◌+◌, ◌-◌, ◌*◌, ◌/◌, ◌%◌, ◌<◌, ◌≤◌, Bool, true, false, [], ◌∷◌, length, get_or, Some, refl, sym, ◌∙◌, ap, inl, inr, arith, replicate, length-append}
 use Rattle.std.specs.Prelude.{slice_get, nat_le, ◌==◌, if◌then◌else◌}
 use Rattle.std.proofs.lemmas.List.{length-replicate, get_or-replicate, get_or_append_left, get_or-append_right}
 use Rattle.std.proofs.lemmas.Option.{slice_get-get_or}
@@ -52,3 +52,24 @@ get-object_tags size tag k below =
           ∙ (ap (λ (j : ℕ). get_or (short_granule size) j 0) same
           ∙ (get-short_granule size (omega arith) ∙ sym (cond-false (nat_le (16 * k + 16) size) tag (size % 16) past)))
     ])
+
+-- the short granule, by the size's bytes in it
+short_granule-by_test : (n : ℕ) (b : Bool) → (suc n % 16 == 0) ≡ b → suc n % 16 ≢ 0 → (if b then [] else suc n % 16 ∷ []) ≡ suc n % 16 ∷ []
+short_granule-by_test n true e h = absurd (h (grind (arith, nat_tests)))
+short_granule-by_test n false e h = refl
+
+whole_granule-by_test : (n : ℕ) (b : Bool) → (suc n % 16 == 0) ≡ b → suc n % 16 ≡ 0 → (if b then [] else suc n % 16 ∷ []) ≡ []
+whole_granule-by_test n true e h = refl
+whole_granule-by_test n false e h = grind (arith, nat_tests)
+
+pub short_granule-some : (size : ℕ) → size % 16 ≢ 0 → short_granule size ≡ size % 16 ∷ []
+short_granule-some zero h = refl
+short_granule-some (suc n) h = short_granule-by_test n (suc n % 16 == 0) refl h
+
+pub short_granule-empty : (size : ℕ) → size ≡ 0 → short_granule size ≡ size % 16 ∷ []
+short_granule-empty zero h = refl
+short_granule-empty (suc n) h = absurd (omega (arith, h))
+
+pub short_granule-none : (size : ℕ) → size % 16 ≡ 0 → size ≢ 0 → short_granule size ≡ []
+short_granule-none zero h k = absurd (k refl)
+short_granule-none (suc n) h k = whole_granule-by_test n (suc n % 16 == 0) refl h
