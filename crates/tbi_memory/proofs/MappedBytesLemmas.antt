@@ -109,14 +109,14 @@ write_some ranges a [] b = refl
 write_some ranges a (v ∷ bytes) b = write_some (set_byte ranges a v) (a + 1) bytes b ∙ byte_at-set_some ranges a b v
 
 -- the read of one byte and those after it, by what is at the address
-read_on : Option ℕ → ℕ → Result (List ℕ) MemFault → Result (List ℕ) MemFault
+unfoldable pub read_on : Option ℕ → ℕ → Result (List ℕ) MemFault → Result (List ℕ) MemFault
 read_on o a rest = elim o [ None ↦ Err (Unmapped a) | Some byte ↦ after_byte byte rest ]
 
-read_bytes-suc : (ranges : List Range) (a count : ℕ) → read_bytes ranges a (suc count) ≡ read_on (byte_at ranges a) a (read_bytes ranges (a + 1) count)
+pub read_bytes-suc : (ranges : List Range) (a count : ℕ) → read_bytes ranges a (suc count) ≡ read_on (byte_at ranges a) a (read_bytes ranges (a + 1) count)
 unfolding read_bytes read_on
 read_bytes-suc ranges a count = refl
 
-read_on-some : (o : Option ℕ) (a byte : ℕ) (rest : Result (List ℕ) MemFault) → o ≡ Some byte → read_on o a rest ≡ after_byte byte rest
+pub read_on-some : (o : Option ℕ) (a byte : ℕ) (rest : Result (List ℕ) MemFault) → o ≡ Some byte → read_on o a rest ≡ after_byte byte rest
 unfolding read_on
 read_on-some None a byte rest h = cc
 read_on-some (Some other) a byte rest h = let same : other ≡ byte = cc in ap (λ (b : ℕ). after_byte b rest) same

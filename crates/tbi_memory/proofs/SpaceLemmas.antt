@@ -1,6 +1,7 @@
 -- Laws of the address space: what was written is read, and an object's birth stays inside its rounded size.
-use Rattle.std.proofs.Common.{◌≡◌, ◌≢◌, ℕ, zero, suc, ◌+◌, ◌-◌, ◌/◌, ◌%◌, ◌<◌, ◌≤◌, Bool, true, false, List, length, Option, Some, None, refl, sym, ◌∙◌, subst, arith, replicate}
-use Rattle.std.specs.Prelude.{slice_get, if◌then◌else◌, ◌==◌, Result, Ok, Err}
+use Rattle.std.proofs.Common.{◌≡◌, ◌≢◌, ℕ, zero, suc, ◌+◌, ◌-◌, ◌/◌, ◌%◌, ◌<◌, ◌≤◌, Bool, true, false, ◌&&◌, List, length, Option, Some, None, refl, sym, ◌∙◌, ap, subst, arith, replicate}
+use Rattle.std.specs.Prelude.{slice_get, nat_lt, if◌then◌else◌, ◌==◌, Result, Ok, Err}
+use Rattle.std.proofs.lemmas.Bool.Decides.{nat_tests}
 use Rattle.std.proofs.lemmas.List.{length-replicate}
 use Rattle.std.proofs.lemmas.Option.{slice_get_within}
 use Rattle.hw_base.specs.AddressMap.{rounded_size, granule_of}
@@ -33,6 +34,31 @@ written-ok space after number bytes h =
     let parts = written_on-ok (write_fault space number (length bytes)) (with_bytes space (address_of number) bytes) after h in
     let (old, mapped) = refused-none (meets_constants space (address_of number) (length bytes)) (read space number (length bytes)) parts.0 in
     (old, mapped, parts.1)
+
+-- bytes that are mapped and not a constant's are written
+pub written-by : (space : AddressSpace) (number : ℕ) (bytes old : List ℕ) → meets_constants space (address_of number) (length bytes) ≡ false
+    → read space number (length bytes) ≡ Ok old → written space number bytes ≡ Ok (with_bytes space (address_of number) bytes)
+unfolding written written_on
+written-by space number bytes old apart mapped =
+    ap (λ (t : Bool). written_on (refused_write t (read space number (length bytes))) (with_bytes space (address_of number) bytes)) apart
+    ∙ ap (λ (r : Result (List ℕ) MemFault). written_on (refused_write false r) (with_bytes space (address_of number) bytes)) mapped
+
+-- what isn't refused is written
+pub written-none : (space : AddressSpace) (number n : ℕ) (bytes : List ℕ) → length bytes ≡ n → write_fault space number n ≡ None
+    → written space number bytes ≡ Ok (with_bytes space (address_of number) bytes)
+unfolding written written_on
+written-none space number n bytes count none =
+    ap (λ (o : Option MemFault). written_on o (with_bytes space (address_of number) bytes)) (ap (write_fault space number) count ∙ none)
+
+and-second : (s t u : Bool) → t ≡ false → (s && t && u) ≡ false
+and-second true t u e = ap (λ (b : Bool). b && u) e
+and-second false t u e = refl
+
+-- bytes after the constants meet none
+pub meets-none : (space : AddressSpace) (a n : ℕ) → space.constants_end ≤ a → meets_constants space a n ≡ false
+meets-none space a n past =
+    let test : nat_lt a space.constants_end ≡ false = grind (arith, nat_tests) in
+    and-second (nat_lt 0 n) (nat_lt a space.constants_end) (nat_lt space.constants_at (a + n)) test
 
 -- what was written is read
 pub read-written : (space after : AddressSpace) (number : ℕ) (bytes : List ℕ) → written space number bytes ≡ Ok after → read after number (length bytes) ≡ Ok bytes

@@ -1,4 +1,5 @@
 pub mod AddressSpace
 pub mod MappedBytes
+pub mod MemoryParts
 pub mod ObjectMemory
 pub mod SmallSpace

@@ -6,7 +6,9 @@
 mod examples;
 mod laws;
 mod layout;
+mod mapped_part;
 mod mem_fault;
+mod memory;
 
 pub use examples::{a_small_space, objects_in_memory, refused_accesses};
 pub use hw_shadow::Mismatch;
@@ -16,3 +18,7 @@ pub use laws::{
 };
 pub use layout::Layout;
 pub use mem_fault::MemFault;
+pub use memory::Memory;
+
+#[cfg(test)]
+mod tests;
