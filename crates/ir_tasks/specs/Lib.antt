@@ -1,2 +1,4 @@
 pub mod CallStacks
 pub mod Frames
+pub mod TaskFrames
+pub mod TaskStates
