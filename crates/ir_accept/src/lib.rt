@@ -4,9 +4,11 @@
 #![tactic(auto)]
 
 mod accepted;
+mod laws;
 mod typed;
 
 pub use accepted::accept;
+pub use laws::each_text_has_one_answer;
 pub use typed::typed_module;
 
 #[cfg(test)]

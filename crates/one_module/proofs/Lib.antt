@@ -1,0 +1,3 @@
+pub mod Classes
+pub mod Functions
+pub mod OneModule
