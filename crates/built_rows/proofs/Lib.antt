@@ -1,5 +1,5 @@
 pub mod Widths
 pub mod Operations
-pub mod NothingAdded
+pub mod AddedChecks
 pub mod NoneUnbuilt
 pub mod BuiltCode

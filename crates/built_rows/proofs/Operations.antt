@@ -2,8 +2,12 @@
 use Rattle.std.proofs.Common.{◌≡◌, ℕ, zero, suc, ◌<◌, ◌^◌, true, List, [], ◌∷◌, length, slice_get, Option, Some, None, refl, sym, subst, arith}
 use Rattle.std.proofs.lemmas.List.{length-map}
 use Rattle.std.specs.List.{All}
+use Rattle.std.proofs.lemmas.List.Elements.{All-nil, All-cons, All-head, All-tail}
 use Rattle.std.specs.Option.{IfSome}
 use Rattle.ir_core.specs.declared.faults.Fault.TheVariants.{BadType}
+use Rattle.ir_core.specs.declared.types.IrType.{IrType}
+use Rattle.ir_core.specs.declared.types.IrType.TheVariants.{Void, Int, Ptr, Array, Struct, Opaque, Pair}
+use Rattle.ir_core.specs.IndexSteps.{AddressStep, field_step, inner_steps, scaled_step, step_before}
 use Rattle.ir_core.specs.declared.lib_functions.Lib.{Lib}
 use Rattle.ir_core.specs.declared.lib_functions.Lib.TheVariants as lib
 use Rattle.ir_core.specs.declared.operands.Placed.{Placed}
@@ -16,17 +20,18 @@ use Rattle.ir_core.specs.declared.ir_module.Function.{Function}
 use Rattle.ir_core.specs.declared.ir_module.Inst.{Inst}
 use Rattle.ir_core.specs.declared.ir_module.Module.{Module}
 use Rattle.ir_core.specs.Externals.{IsWidth, IsThere}
-use Rattle.ir_core.specs.NumberTypes.{type_of, bits_of}
+use Rattle.ir_core.specs.NumberTypes.{type_of, bits_of, constant_number, field_type}
 use Rattle.ir_core.specs.Operations.{is_number_type}
 use Rattle.ir_core.specs.Resolved.{IsResolvedType}
 use Rattle.ir_core.specs.ResolvedBodies.{IsResolvedOp, IsResolvedPlaced}
 use Rattle.ir_core.specs.Runnable.{IsRunnableOp}
 use Rattle.ir_check_types.specs.Order.{unless}
-use Rattle.ir_check_types.specs.Operands.{is_integer, is_typed, number_fault, integer_fault}
-use Rattle.ir_check_types.specs.Instructions.{number_type_fault, is_cast}
+use Rattle.ir_check_types.specs.Operands.{is_integer, is_typed, number_fault, integer_fault, typed_fault}
+use Rattle.ir_check_types.specs.Instructions.{number_type_fault, is_cast, indices_fault, sized_fault, step_fault, steps_fault}
 use Rattle.ir_check_types.specs.Rules.{operation_fault}
 use Rattle.ir_check_types.proofs.PassedRules.{none_first, none_second, holds, both}
-use Rattle.ir_machine.specs.Built.{IsBuiltOp}
+use Rattle.ir_machine.specs.Built.{IsBuiltOp, IsBuiltStep}
+use Rattle.mi_code.specs.AddressCode.{indices_code, step_code, steps_code}
 use Rattle.mi_code.specs.LibraryCode.{library_call}
 use Rattle.mi_code.specs.MachineOperands.{operand_of}
 use Rattle.mi_code.specs.SourceCode.{source_code}
@@ -91,6 +96,41 @@ is-there [] n within none = omega arith
 is-there (x ∷ xs) zero within none = cc
 is-there (x ∷ xs) (suc n) within none = is-there xs n (omega arith) none
 
+-- ---- addresses
+
+before-built : (m : Module) (step : AddressStep) (rest : Option (List AddressStep)) → IsBuiltStep (step_code m step) → All IsBuiltStep (steps_code m rest)
+    → All IsBuiltStep (steps_code m (step_before step rest))
+before-built m step None first all = All-nil IsBuiltStep
+before-built m step (Some steps) first all = All-cons IsBuiltStep (step_code m step) _ first all
+
+steps-built : (m : Module) (f : Function) (type : IrType) (indices : List Placed) → IsKnownModule m → All (IsResolvedPlaced m f) indices → steps_fault m f type indices ≡ None
+    → All IsBuiltStep (steps_code m (inner_steps m type indices))
+unfolding inner_steps
+steps-built m f type [] known resolved none = All-nil IsBuiltStep
+steps-built m f (Array count item) (index ∷ indices) known resolved none =
+    let here = none_first (integer_fault m f index) _ (none_first (step_fault m f (Array count item) index) _ none) in
+    before-built m (scaled_step m index item) (inner_steps m (type_of m item) indices)
+    (width-here m f index known (All-head (IsResolvedPlaced m f) index indices resolved) here)
+    (steps-built m f (type_of m item) indices known (All-tail (IsResolvedPlaced m f) index indices resolved) (none_second (step_fault m f (Array count item) index) _ none))
+steps-built m f (Struct first count packed) (index ∷ indices) known resolved none =
+    before-built m (field_step m first count packed index) (inner_steps m (type_of m (field_type m first (constant_number index.operand))) indices) tt
+    (steps-built m f (type_of m (field_type m first (constant_number index.operand))) indices known (All-tail (IsResolvedPlaced m f) index indices resolved)
+    (none_second (step_fault m f (Struct first count packed) index) _ none))
+steps-built m f Void (index ∷ indices) known resolved none = All-nil IsBuiltStep
+steps-built m f (Int width) (index ∷ indices) known resolved none = All-nil IsBuiltStep
+steps-built m f Ptr (index ∷ indices) known resolved none = All-nil IsBuiltStep
+steps-built m f Opaque (index ∷ indices) known resolved none = All-nil IsBuiltStep
+steps-built m f (Pair width) (index ∷ indices) known resolved none = All-nil IsBuiltStep
+
+indices-built : (m : Module) (f : Function) (place : Place) (ty : ℕ) (indices : List Placed) → IsKnownModule m → All (IsResolvedPlaced m f) indices
+    → indices_fault m f place ty indices ≡ None → All IsBuiltStep (indices_code m ty indices)
+indices-built m f place ty [] known resolved none = All-nil IsBuiltStep
+indices-built m f place ty (index ∷ indices) known resolved none =
+    let rest = none_second (sized_fault m ty place) _ none in
+    before-built m (scaled_step m index ty) (inner_steps m (type_of m ty) indices)
+    (width-here m f index known (All-head (IsResolvedPlaced m f) index indices resolved) (none_first (integer_fault m f index) _ rest))
+    (steps-built m f (type_of m ty) indices known (All-tail (IsResolvedPlaced m f) index indices resolved) (none_second (integer_fault m f index) _ rest))
+
 -- ---- each operation
 
 built-by : (m : Module) (f : Function) (starts : List ℕ) (here : ℕ) (r : Option ℕ) (place : Place) (o : Op) → IsKnownModule m → IsResolvedOp m f o
@@ -115,9 +155,14 @@ built-by m f starts here r place (op.Call func result args) known resolved none 
 built-by m f starts here r place (op.CallLib declare result args start) known resolved none runnable row =
     library-built f (lib_of m declare) r args start (lib-there m.declares declare known.declares resolved.0) row
 built-by m f starts here r place (op.Alloca index ty count) known resolved none runnable row = absurd cc
-built-by m f starts here r place (op.Load ty at align) known resolved none runnable row = absurd cc
-built-by m f starts here r place (op.Store value at align) known resolved none runnable row = absurd cc
-built-by m f starts here r place (op.Gep ty base indices) known resolved none runnable row = absurd cc
+built-by m f starts here r place (op.Load ty at align) known resolved none runnable row =
+    number-width m (type_of m ty) (type-resolved m known.types ty resolved.0)
+    (holds (is_number_type (type_of m ty)) BadType place (none_first (number_type_fault m ty place) _ none))
+built-by m f starts here r place (op.Store value at align) known resolved none runnable row =
+    number-width m (type_of m value.ty) (type-resolved m known.types value.ty resolved.0.type)
+    (holds (is_number_type (type_of m value.ty)) BadType place (none_first (number_type_fault m value.ty place) _ none))
+built-by m f starts here r place (op.Gep ty base indices) known resolved none runnable row =
+    indices-built m f place ty indices known resolved.2 (none_second (typed_fault m f Ptr base) _ none)
 built-by m f starts here r place (op.Rmw kind at value align) known resolved none runnable row = absurd cc
 built-by m f starts here r place (op.CmpXchg at expected new align) known resolved none runnable row = absurd cc
 built-by m f starts here r place other known resolved none runnable row = tt

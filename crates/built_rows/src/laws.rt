@@ -1,7 +1,7 @@
 ghost use Rattle.built_rows.specs.Laws.{BuiltCanBeRun};
 
-/// The law of the table: the machine runs all instructions of the code of an accepted module in which nothing is unbuilt, and there
-/// are no global variables. The function does nothing when it runs.
+/// The law of the table: the machine runs all instructions of the code of an accepted module in which nothing is unbuilt, and its
+/// globals can be loaded. The function does nothing when it runs.
 pub fn built_modules_can_be_run()
     ensures { BuiltCanBeRun }
 {}

@@ -1,9 +1,8 @@
 use crate::unbuilt;
 use hw_base::{BinOp, ByteList, OutOfMemory, SizeList};
 use ir_core::{
-    BlockList, DeclareList, Fault, Function, FunctionList, GlobalList, GlobalVar, Inst, InstList,
-    IrType, LayoutList, Meta, Module, Op, Operand, PartList, Place, Placed, Refusal, TypeIdList,
-    TypeList,
+    BlockList, DeclareList, Fault, Function, FunctionList, GlobalList, Inst, InstList, IrType,
+    LayoutList, Meta, Module, Op, Operand, Place, Placed, Refusal, TypeIdList, TypeList,
 };
 use std::alloc::Global;
 use std::test::Fail;
@@ -39,25 +38,39 @@ fn sum() -> Op {
     }
 }
 
-fn load() -> Op {
+/// A load of an `i32` with a stated alignment.
+fn load(align: u32) -> Op {
     Op::Load {
         ty: NUMBER,
         at: parameter(POINTER),
-        align: 4,
+        align,
     }
 }
 
-/// A function at 2:12 with one parameter of a type and one instruction, which is at 3:3.
-fn function(alloc: Global, ty: u32, op: Op) -> Result<Function, OutOfMemory> {
-    let mut regs = TypeIdList::new(alloc);
-    regs.push(ty)?;
-    let mut insts = InstList::new(alloc);
-    insts.push(Inst {
+fn variable() -> Op {
+    Op::Alloca {
+        index: 0,
+        ty: NUMBER,
+        count: None,
+    }
+}
+
+fn at_line(line: u32, op: Op) -> Inst {
+    Inst {
         op,
         result: None,
         dbg: None,
-        place: Place { line: 3, column: 3 },
-    })?;
+        place: Place { line, column: 3 },
+    }
+}
+
+/// A function at 2:12 with one parameter of a type and two instructions, which are at 3:3 and 4:3.
+fn function(alloc: Global, ty: u32, first: Op, second: Op) -> Result<Function, OutOfMemory> {
+    let mut regs = TypeIdList::new(alloc);
+    regs.push(ty)?;
+    let mut insts = InstList::new(alloc);
+    insts.push(at_line(3, first))?;
+    insts.push(at_line(4, second))?;
     Ok(Function {
         name: ByteList::from_vec(b"main".as_slice().to_vec(alloc)?),
         params: 1,
@@ -73,26 +86,14 @@ fn function(alloc: Global, ty: u32, op: Op) -> Result<Function, OutOfMemory> {
     })
 }
 
-/// A global variable at 1:1.
-fn variable(alloc: Global) -> Result<GlobalVar, OutOfMemory> {
-    Ok(GlobalVar {
-        name: ByteList::from_vec(b"x".as_slice().to_vec(alloc)?),
-        ty: NUMBER,
-        constant: false,
-        fits: true,
-        init: PartList::new(alloc),
-        place: Place { line: 1, column: 1 },
-    })
-}
-
-fn module(alloc: Global, globals: GlobalList, f: Function) -> Result<Module, OutOfMemory> {
+fn module(alloc: Global, f: Function) -> Result<Module, OutOfMemory> {
     let mut functions = FunctionList::new(alloc);
     functions.push(f)?;
     Ok(Module {
         types: types(alloc)?,
         fields: TypeIdList::new(alloc),
         layouts: LayoutList::new(alloc),
-        globals,
+        globals: GlobalList::new(alloc),
         declares: DeclareList::new(alloc),
         functions,
         main: 0,
@@ -100,19 +101,10 @@ fn module(alloc: Global, globals: GlobalList, f: Function) -> Result<Module, Out
     })
 }
 
-/// What is unbuilt in a module of one such function.
-fn found(alloc: Global, ty: u32, op: Op) -> Result<Option<Refusal>, OutOfMemory> {
-    let f = function(alloc, ty, op)?;
-    let m = module(alloc, GlobalList::new(alloc), f)?;
-    Ok(unbuilt(&m))
-}
-
-/// The same with a global variable.
-fn found_with_variable(alloc: Global, ty: u32, op: Op) -> Result<Option<Refusal>, OutOfMemory> {
-    let f = function(alloc, ty, op)?;
-    let mut globals = GlobalList::new(alloc);
-    globals.push(variable(alloc)?)?;
-    let m = module(alloc, globals, f)?;
+/// What is unbuilt in a module of one such function, whose parameter is a pointer.
+fn found(alloc: Global, first: Op, second: Op) -> Result<Option<Refusal>, OutOfMemory> {
+    let f = function(alloc, POINTER, first, second)?;
+    let m = module(alloc, f)?;
     Ok(unbuilt(&m))
 }
 
@@ -125,30 +117,21 @@ fn unsupported(line: u32, column: u32) -> Option<Refusal> {
 }
 
 #[test]
-fn sums_of_numbers_are_built(rt: HostRuntime) -> Result<(), Fail> {
-    assert_eq!(rt; found(rt.alloc(), NUMBER, sum())?, None);
+fn sums_and_aligned_loads_are_built(rt: HostRuntime) -> Result<(), Fail> {
+    assert_eq!(rt; found(rt.alloc(), sum(), load(4))?, None);
     Ok(())
 }
 
 #[test]
 fn what_is_unbuilt_is_refused_at_its_place(rt: HostRuntime) -> Result<(), Fail> {
     let alloc = rt.alloc();
-    assert_eq!(rt; found(alloc, NUMBER, load())?, unsupported(3, 3));
-    assert_eq!(rt; found(alloc, POINTER, sum())?, unsupported(2, 12));
-    assert_eq!(rt;
-        found_with_variable(alloc, NUMBER, sum())?,
-        unsupported(1, 1)
-    );
+    assert_eq!(rt; found(alloc, sum(), load(2))?, unsupported(4, 3));
+    assert_eq!(rt; found(alloc, variable(), sum())?, unsupported(3, 3));
     Ok(())
 }
 
 #[test]
 fn the_first_place_is_the_one_refused(rt: HostRuntime) -> Result<(), Fail> {
-    let alloc = rt.alloc();
-    assert_eq!(rt; found(alloc, POINTER, load())?, unsupported(2, 12));
-    assert_eq!(rt;
-        found_with_variable(alloc, POINTER, load())?,
-        unsupported(1, 1)
-    );
+    assert_eq!(rt; found(rt.alloc(), variable(), load(1))?, unsupported(3, 3));
     Ok(())
 }

@@ -5,12 +5,11 @@ use Rattle.hw_base.specs.declared.endings.Status.{Status}
 use Rattle.hw_base.specs.declared.endings.Status.TheVariants.{FileFault, WriteFault, Memory}
 use Rattle.hw_ports.specs.Content.{Bytes}
 use Rattle.hw_driver.specs.Line.{Line}
-use Rattle.hw_driver.specs.Program.{Program}
 use Rattle.hw_driver.specs.Closing.{file_fault_line, write_fault_line, memory_line}
-use Rattle.hw_driver.specs.Answer.{Decision, FileRead, FilesChange, IsOneGlobal, read_of, JudgesText, Judges, file_read, file_failed, memory_failed, Decides, SinkChange, TookAll, TookFront, Delivers, delivered, out_failed, err_failed, Answers, one_global_decision, bad_words_decision, file_fault_decision, memory_decision}
+use Rattle.hw_driver.specs.Answer.{Decision, FileRead, FilesChange, read_of, JudgesText, Judges, file_read, file_failed, memory_failed, Decides, SinkChange, TookAll, TookFront, Delivers, delivered, out_failed, err_failed, Answers, bad_words_decision, file_fault_decision, memory_decision}
 use Rattle.hw_driver.specs.Promises.{FileRose, TookSome, TookPart, TookJudged, Closes}
 use Rattle.hw_driver.proofs.Causes.{unrisen}
-use Rattle.hw_driver.proofs.Exactness.{bad_words_decided, command_judged, read_told, text_run}
+use Rattle.hw_driver.proofs.Exactness.{bad_words_decided, command_judged, read_told}
 use Rattle.hw_driver.proofs.RunStatuses.{IsRunStatus, runs_status}
 
 -- no front of nothing is short of it
@@ -90,10 +89,6 @@ part d result out err (delivered is o e) = record { front = d.output; rest = [];
 part d result out err (out_failed is o e) = record { front = o.front; rest = o.rest; whole = o.whole; taken = o.taken }
 part d result out err (err_failed is o e) = record { front = d.output; rest = []; whole = sym (append-nil d.output); taken = o.taken }
 
--- nothing is a front of anything
-part_of_nothing : (out : SinkChange) (text : List ℕ) → TookAll out [] → TookPart out text
-part_of_nothing out text o = record { front = []; rest = text; whole = refl; taken = o.taken }
-
 judged_part : (files : FilesChange) (result : Status) (out err : SinkChange) (l : Line) (bytes : List ℕ) (d : Decision)
     → files.content l.file ≡ Bytes bytes → Judges files l d → Delivers d result out err → TookAll out [] ⊎ TookJudged l (read_of bytes) out
 judged_part files result out err l bytes d told (file_read j) del = inr (record {
@@ -104,15 +99,6 @@ judged_part files result out err l bytes d told (file_read j) del = inr (record 
 judged_part files result out err l bytes d told (file_failed once grown is) del = inl (silent d file_fault_decision result out err is refl del).0
 judged_part files result out err l bytes d told (memory_failed reads same is) del = inl (silent d memory_decision result out err is refl del).0
 
-run_part : (files : FilesChange) (result : Status) (out err : SinkChange) (l : Line) (bytes : List ℕ) (p : Program) (d : Decision)
-    → files.content l.file ≡ Bytes bytes → IsOneGlobal (read_of bytes) p → Judges files l d → Delivers d result out err
-    → TookPart out (one_global_decision l p).output
-run_part files result out err l bytes p d told spelled (file_read j) del =
-    let text = subst (λ (x : FileRead). JudgesText l x d) (read_told files.content l.file bytes j.read told j.reads_as) j.text in
-    subst (λ (x : Decision). TookPart out x.output) (text_run l (read_of bytes) p d spelled text) (part d result out err del)
-run_part files result out err l bytes p d told spelled (file_failed once grown is) del = part_of_nothing out _ (silent d file_fault_decision result out err is refl del).0
-run_part files result out err l bytes p d told spelled (memory_failed reads same is) del = part_of_nothing out _ (silent d memory_decision result out err is refl del).0
-
 pub Answers-closes : (words : Option Line) (files : FilesChange) (result : Status) (out err : SinkChange)
     → Answers words files result out err → Closes words files out err result
 Answers-closes words files result out err a = record {
@@ -122,7 +108,5 @@ Answers-closes words files result out err a = record {
   file_rose = λ rise. silent a.decision file_fault_decision result out err (rise_decided words files a.decision a.decided rise) refl a.delivered;
   no_line = λ none. silent a.decision bad_words_decision result out err (bad_words_decided words files a.decision none a.decided) refl a.delivered;
   judged = λ l bytes some told. judged_part files result out err l bytes a.decision told
-      (command_judged words files a.decision l some a.decided) a.delivered;
-  one_global = λ l bytes p some told spelled. run_part files result out err l bytes p a.decision told spelled
       (command_judged words files a.decision l some a.decided) a.delivered;
 }

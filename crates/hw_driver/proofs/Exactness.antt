@@ -5,11 +5,10 @@ use Rattle.hw_base.specs.declared.endings.Status.{Status}
 use Rattle.hw_base.specs.declared.endings.Status.TheVariants.{Memory}
 use Rattle.hw_ports.specs.Content.{Content, Bytes}
 use Rattle.hw_driver.specs.Line.{Line}
-use Rattle.hw_driver.specs.Program.{Program}
-use Rattle.hw_driver.specs.Answer.{Decision, FileRead, FilesChange, OneReadFailed, Whole, TooLong, ReadsAs, IsOneGlobal, IsOther, read_of, JudgesText, JudgesFile, Judges, file_read, file_failed, memory_failed, Decides, SinkChange, Delivers, delivered, out_failed, err_failed, Answers, one_global_decision, bad_words_decision}
+use Rattle.hw_driver.specs.Answer.{Decision, FileRead, FilesChange, OneReadFailed, ReadsAs, read_of, JudgesText, JudgesFile, Judges, file_read, file_failed, memory_failed, Decides, SinkChange, Delivers, delivered, out_failed, err_failed, Answers, bad_words_decision}
 use Rattle.hw_driver.specs.Promises.{FileRose, HadNoFault, Shows, ShowsJudged, ShowsModule, run_shown, refusal_shown, IsExact}
 use Rattle.hw_driver.proofs.Causes.{times-push}
-use Rattle.hw_driver.proofs.Spelling.{program_of-spelling}
+use Rattle.hw_driver.proofs.OneDecision.{one_decision}
 
 -- without a fault the decision is delivered whole
 shown : (words : Option Line) (files : FilesChange) (d : Decision) (result : Status) (out err : SinkChange) → Delivers d result out err → HadNoFault words files out err result → Shows d result out err
@@ -41,17 +40,6 @@ was_read files l d no_rise held (memory_failed reads same is) = absurd (held (ap
 pub read_told : (content : List ℕ → Content) (file bytes : List ℕ) (read : FileRead) → content file ≡ Bytes bytes → ReadsAs (content file) read → read ≡ read_of bytes
 read_told content file bytes read told reads = rw told at reads
 
--- a text spells one program
-pub same_program : (read : FileRead) (p q : Program) → IsOneGlobal read p → IsOneGlobal read q → p ≡ q
-same_program (Whole text) p q a b = let e = program_of-spelling text p a in let f = program_of-spelling text q b in cc
-same_program TooLong p q a b = absurd a
-
--- a text of one global comes to the run of its program
-pub text_run : (l : Line) (read : FileRead) (p : Program) (d : Decision) → IsOneGlobal read p → JudgesText l read d → d ≡ one_global_decision l p
-text_run l read p d spelled (inl (inl r)) = r.decision ∙ ap (one_global_decision l) (same_program read r.program p r.spelled spelled)
-text_run l read p d spelled (inl (inr r)) = absurd (r.other p spelled)
-text_run l read p d spelled (inr r) = absurd (r.other p spelled)
-
 -- a command whose text is observable: the file was read, and the text is that one
 told_text : (words : Option Line) (files : FilesChange) (result : Status) (out err : SinkChange) (d : Decision) (l : Line) (bytes : List ℕ)
     → words ≡ Some l → files.content l.file ≡ Bytes bytes → HadNoFault words files out err result → result ≡ d.status → Decides files words d → JudgesText l (read_of bytes) d
@@ -69,17 +57,15 @@ Answers-exact words files result out err a h =
       judged = λ l bytes some told. record {
         decision = a.decision;
         judged = told_text words files result out err a.decision l bytes some told h all.status a.decided;
+        only = λ other judged. one_decision l (read_of bytes) other a.decision judged (told_text words files result out err a.decision l bytes some told h all.status a.decided);
         shows = all;
       };
-      one_global = λ l bytes p some told spelled. subst (λ (x : Decision). Shows x result out err)
-          (text_run l (read_of bytes) p a.decision spelled (told_text words files result out err a.decision l bytes some told h all.status a.decided)) all;
     }
 
--- a text of another form comes to the run of its module, or is refused
-pub judged-module : (l : Line) (read : FileRead) (result : Status) (out err : SinkChange) → IsOther read → ShowsJudged l read result out err → ShowsModule l read result out err
-judged-module l read result out err other s = by_judgement s.decision s.judged s.shows
+-- a text comes to the run of its module, or is refused
+pub judged-module : (l : Line) (read : FileRead) (result : Status) (out err : SinkChange) → ShowsJudged l read result out err → ShowsModule l read result out err
+judged-module l read result out err s = by_judgement s.decision s.judged s.shows
   where
     by_judgement : (d : Decision) → JudgesText l read d → Shows d result out err → ShowsModule l read result out err
-    by_judgement d (inl (inl r)) h = absurd (other r.program r.spelled)
-    by_judgement d (inl (inr r)) h = run_shown d r h
+    by_judgement d (inl r) h = run_shown d r h
     by_judgement d (inr r) h = refusal_shown d r h

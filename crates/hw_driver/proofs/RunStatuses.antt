@@ -1,5 +1,5 @@
 -- The status of a text that comes to a run says how the run ended.
-use Rattle.std.proofs.Common.{◌≡◌, ℕ, [], sym, subst, inl, inr}
+use Rattle.std.proofs.Common.{◌≡◌, ℕ, [], sym, subst}
 use Rattle.std.specs.Prelude.{⊤}
 use Rattle.hw_base.specs.declared.endings.Status.{Status}
 use Rattle.hw_base.specs.declared.endings.Status.TheVariants as status
@@ -10,9 +10,7 @@ use Rattle.ir_machine.specs.State.{MachineRun, Exited, Trapped, Reported, IsFull
 use Rattle.hw_run.specs.RunEnds.{IsGathered}
 use Rattle.hw_run.specs.declared.ends.Gathered.{Gathered}
 use Rattle.hw_driver.specs.Line.{Line}
-use Rattle.hw_driver.specs.Machine.{Exits, EndsInReport}
-use Rattle.hw_driver.specs.Bounded.{BoundedEnding, Ends, Stops, bounded_run}
-use Rattle.hw_driver.specs.Answer.{Decision, FileRead, Runs, bounded_decision, bound_under, tag_under, gathered_of}
+use Rattle.hw_driver.specs.Answer.{Decision, FileRead, RunsModule, gathered_of}
 
 -- a status that says how a run ended
 abbrev pub IsRunStatus : Status → Type 0
@@ -34,12 +32,5 @@ gathered_status m bound (Ended w pieces (Reported raw)) g h = is_status g.status
 gathered_status m bound (Ended w pieces (IsFull full)) g h = is_status g.status status.Full h.status_is tt
 gathered_status m bound IsStuck g h = absurd h
 
-bounded_status : (bound : ℕ) (e : BoundedEnding) → IsRunStatus (bounded_decision bound e).status
-bounded_status bound (Ends (Exits output step)) = tt
-bounded_status bound (Ends (EndsInReport output failed)) = tt
-bounded_status bound (Stops output) = tt
-
-pub runs_status : (l : Line) (read : FileRead) (d : Decision) → Runs l read d → IsRunStatus d.status
-runs_status l read d (inl r) =
-    subst (λ (x : Decision). IsRunStatus x.status) (sym r.decision) (bounded_status (bound_under l) (bounded_run (bound_under l) (tag_under l) r.program))
-runs_status l read d (inr r) = gathered_status r.m r.run.options.steps (run_of r.m r.run.options []) (gathered_of d) (r.run.decision [])
+pub runs_status : (l : Line) (read : FileRead) (d : Decision) → RunsModule l read d → IsRunStatus d.status
+runs_status l read d r = gathered_status r.m r.run.options.steps (run_of r.m r.run.options []) (gathered_of d) (r.run.decision [])

@@ -3,14 +3,13 @@ use Rattle.std.specs.Prelude.{◌≡◌, ◌⊎◌, ℕ, ◌<◌, ◌≤◌, nat
 use Rattle.std.specs.Io.KnownBytes.{Appends}
 use Rattle.hw_base.specs.declared.numbers.TheConstants.{MOST_TEXT}
 use Rattle.hw_base.specs.declared.endings.Status.{Status}
-use Rattle.hw_base.specs.declared.endings.Status.TheVariants.{Ended, Reported, BadWords, Refused, FileFault, WriteFault, Memory, Spent}
+use Rattle.hw_base.specs.declared.endings.Status.TheVariants.{BadWords, Refused, FileFault, WriteFault, Memory}
 use Rattle.hw_ports.specs.Causes.{Rose}
 use Rattle.hw_ports.specs.Content.{Content, Unobservable, Absent, Bytes}
-use Rattle.hw_tags.specs.Tag.{global_tag_of}
 use Rattle.hw_tags.specs.Word.{word}
 use Rattle.hw_tags.specs.declared.options.Options.{Options}
 use Rattle.hw_tags.specs.declared.words_spec.WordsSpec.{WordsSpec}
-use Rattle.hw_tags.specs.declared.words_spec.WordsSpec.TheVariants.{Cycle, Seed}
+use Rattle.hw_tags.specs.declared.words_spec.WordsSpec.TheVariants.{Seed}
 use Rattle.ir_core.specs.declared.faults.Fault.TheVariants.{TooLarge}
 use Rattle.ir_core.specs.declared.faults.Limit.TheVariants.{Text}
 use Rattle.ir_core.specs.declared.ir_module.Module.{Module}
@@ -20,15 +19,11 @@ use Rattle.ir_accept.specs.Accepted.{IsAcceptedAs, IsFaulty}
 use Rattle.built_rows.specs.Unbuilt.{unbuilt}
 use Rattle.ir_machine.specs.Runs.{run_of, setting_of}
 use Rattle.accepted_detection.specs.AcceptedRuns.{DetectsAlways}
-use Rattle.hw_run.specs.Closing.{spent_line}
 use Rattle.hw_run.specs.RunEnds.{IsGathered}
 use Rattle.hw_run.specs.declared.ends.Gathered.{Gathered}
 use Rattle.hw_driver.specs.declared.options.TheConstants.{STEPS, HEAP, RING}
 use Rattle.hw_driver.specs.Line.{Line}
-use Rattle.hw_driver.specs.Program.{Program, Spells}
-use Rattle.hw_driver.specs.Machine.{MachineEnding, Exits, EndsInReport}
-use Rattle.hw_driver.specs.Bounded.{BoundedEnding, Ends, Stops, bounded_run}
-use Rattle.hw_driver.specs.Closing.{usage_line, file_fault_line, write_fault_line, memory_line, ended_line, report_lines}
+use Rattle.hw_driver.specs.Closing.{usage_line, file_fault_line, write_fault_line, memory_line}
 
 -- a status, what is written to `out`, and the closing text
 pub record Decision : Type 0 where
@@ -53,10 +48,10 @@ ReadsAs (Bytes bytes) read = read ≡ read_of bytes
 
 -- ---- options
 
--- the tag words: the one that is given, again and again, or else those of seed 1
-abbrev pub tag_words : Option ℕ → WordsSpec
+-- the tag words: those that are given, or else those of seed 1
+abbrev pub tag_words : Option WordsSpec → WordsSpec
 tag_words None = Seed 1
-tag_words (Some w) = Cycle (w ∷ [])
+tag_words (Some words) = words
 
 -- the bound on the steps, by default the constant
 abbrev pub steps_or : Option ℕ → ℕ
@@ -68,7 +63,7 @@ bound_under l = steps_or l.given.steps
 
 -- the options of a run under a command
 pub record IsOptionsOf (l : Line) (options : Options) : Type 0 where
-  pub tags : options.tags ≡ tag_words l.given.word
+  pub tags : options.tags ≡ tag_words l.given.tags
   pub turns : options.turns ≡ Seed 1
   pub steps : options.steps ≡ bound_under l
   pub heap : options.heap ≡ HEAP
@@ -92,47 +87,7 @@ refused_decision refusal = record { status = Refused; output = []; text = refuse
 abbrev pub too_long : Refusal
 too_long = record { fault = TooLarge Text; line = 1; column = 1 }
 
--- ---- texts of one global
-
--- a text is of the form of one global: it spells this program
-abbrev pub IsOneGlobal : FileRead → Program → Type 0
-IsOneGlobal (Whole text) p = Spells text p
-IsOneGlobal TooLong p = ⊥
-
--- a text is of any other form
-abbrev pub IsOther : FileRead → Type 0
-IsOther read = (p : Program) → IsOneGlobal read p → ⊥
-
--- the tag word that is given, or else the first word of seed 1
-abbrev pub given_word : Option ℕ → ℕ
-given_word None = word (Seed 1) 0
-given_word (Some w) = w
-
--- the tag of the global under a command
-abbrev pub tag_under : Line → ℕ
-tag_under l = global_tag_of (given_word l.given.word) 0
-
--- what a run that ended so comes to
-abbrev pub ending_decision : MachineEnding → Decision
-ending_decision (Exits output step) = record { status = Ended; output = output; text = ended_line step }
-ending_decision (EndsInReport output failed) = record { status = Reported; output = output; text = report_lines failed }
-
--- and under a bound
-abbrev pub bounded_decision : (bound : ℕ) → BoundedEnding → Decision
-bounded_decision bound (Ends ending) = ending_decision ending
-bounded_decision bound (Stops output) = record { status = Spent; output = output; text = spent_line bound }
-
--- the decision for a program of one global under a command
-abbrev pub one_global_decision : Line → Program → Decision
-one_global_decision l p = bounded_decision (bound_under l) (bounded_run (bound_under l) (tag_under l) p)
-
--- a text of one global comes to the run of its program
-pub record RunsOneGlobal (l : Line) (read : FileRead) (d : Decision) : Type 0 where
-  pub program : Program
-  pub spelled : IsOneGlobal read program
-  pub decision : d ≡ one_global_decision l program
-
--- ---- all other texts
+-- ---- texts
 
 -- the text is accepted, this is its module, and the machine runs all of it
 abbrev pub IsRun : FileRead → Module → Type 0
@@ -161,25 +116,19 @@ JudgesModule l m d = ((unbuilt m ≡ None) × IsRunOf l m d) ⊎ ((refusal : Ref
 
 -- a text that is accepted comes to the run of its module
 pub record RunsModule (l : Line) (read : FileRead) (d : Decision) : Type 0 where
-  pub other : IsOther read
   pub m : Module
   pub accepted : IsRun read m
   pub run : IsRunOf l m d
 
--- a text comes to a run
-abbrev pub Runs : Line → FileRead → Decision → Type 0
-Runs l read d = RunsOneGlobal l read d ⊎ RunsModule l read d
-
 -- a text is refused
 pub record Refuses (read : FileRead) (d : Decision) : Type 0 where
-  pub other : IsOther read
   pub refusal : Refusal
   pub refused : IsRefused read refusal
   pub decision : d ≡ refused_decision refusal
 
 -- What a command and a text that was read come to.
 abbrev pub JudgesText : Line → FileRead → Decision → Type 0
-JudgesText l read d = Runs l read d ⊎ Refuses read d
+JudgesText l read d = RunsModule l read d ⊎ Refuses read d
 
 -- what a call did to the files: what is under each name, and the names of the reads and of the failed reads, before and after
 pub record FilesChange : Type 0 where

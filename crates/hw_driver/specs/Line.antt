@@ -1,14 +1,16 @@
 -- The words of the command line that are a command. This project's choice.
-use Rattle.std.specs.Prelude.{ℕ, ◌^◌, List, [], ◌∷◌, length, Option, Some, None, Bool, ◌&&◌, not, nat_lt, nat_le, nat_eq, if◌then◌else◌, codes, option_map}
+use Rattle.std.specs.Prelude.{ℕ, ◌^◌, ◌==◌, List, [], ◌∷◌, length, Option, Some, None, Bool, ◌&&◌, not, nat_lt, nat_le, nat_eq, if◌then◌else◌, codes, option_map}
 use Rattle.std.specs.Char.{is_ascii_digit}
-use Rattle.std.specs.List.{starts_with, list_all}
+use Rattle.std.specs.List.{starts_with, list_all, slice_split}
 use Rattle.std.specs.Str.{bytes_eq}
 use Rattle.std.specs.Str.Parse.{digits_value}
-use Rattle.hw_base.specs.declared.numbers.TheConstants.{MOST_STEPS}
+use Rattle.hw_base.specs.declared.numbers.TheConstants.{MOST_STEPS, MOST_WORDS}
+use Rattle.hw_tags.specs.declared.words_spec.WordsSpec.{WordsSpec}
+use Rattle.hw_tags.specs.declared.words_spec.WordsSpec.TheVariants.{Cycle, Seed}
 
--- the options that are given: a tag word, and a bound on the steps
+-- the options that are given: the tag words, and a bound on the steps
 pub record Given : Type 0 where
-  pub word : Option ℕ
+  pub tags : Option WordsSpec
   pub steps : Option ℕ
 
 -- a command: the FILE word, and the options that are given
@@ -20,21 +22,19 @@ pub record Line : Type 0 where
 abbrev pub is_file : List ℕ → Bool
 is_file name = not (starts_with nat_eq name (codes "-"))
 
+-- ---- numbers
+
 -- one decimal digit or more
 abbrev pub is_number : List ℕ → Bool
 is_number text = nat_lt 0 (length text) && list_all is_ascii_digit text
 
--- a tag word: a number from 0 to 255
-unfoldable pub tag_word : List ℕ → Option ℕ
-tag_word text = if is_number text && nat_le (digits_value 10 text) 255 then Some (digits_value 10 text) else None
+-- the number that a text writes, below 2^64
+unfoldable pub number_of : List ℕ → Option ℕ
+number_of text = if is_number text && nat_lt (digits_value 10 text) (2 ^ 64) then Some (digits_value 10 text) else None
 
 -- a number of steps
 abbrev pub is_bound : ℕ → Bool
 is_bound n = nat_le 1 n && nat_le n MOST_STEPS
-
--- the number that a text writes, below 2^64
-unfoldable pub number_of : List ℕ → Option ℕ
-number_of text = if is_number text && nat_lt (digits_value 10 text) (2 ^ 64) then Some (digits_value 10 text) else None
 
 abbrev pub bounded : Option ℕ → Option ℕ
 bounded None = None
@@ -44,21 +44,58 @@ bounded (Some n) = if is_bound n then Some n else None
 abbrev pub step_bound : List ℕ → Option ℕ
 step_bound text = bounded (number_of text)
 
+-- ---- tag words
+
+-- a tag word: a number from 0 to 255
+unfoldable pub tag_word : List ℕ → Option ℕ
+tag_word text = if is_number text && nat_le (digits_value 10 text) 255 then Some (digits_value 10 text) else None
+
+abbrev pub word_before : Option ℕ → Option (List ℕ) → Option (List ℕ)
+word_before None words = None
+word_before (Some word) words = option_map (λ others. word ∷ others) words
+
+-- the tag words of texts, if each is one
+abbrev pub words_of : List (List ℕ) → Option (List ℕ)
+words_of [] = Some []
+words_of (text ∷ texts) = word_before (tag_word text) (words_of texts)
+
+-- at most so many words
+abbrev pub at_most : (most : ℕ) → Option (List ℕ) → Option (List ℕ)
+at_most most None = None
+at_most most (Some words) = if nat_le (length words) most then Some words else None
+
+-- the texts between commas
+abbrev pub parts : List ℕ → List (List ℕ)
+parts text = slice_split (λ b. b == 44) text
+
+-- a list of tag words, with a comma between each two
+unfoldable pub tag_list : List ℕ → Option (List ℕ)
+tag_list text = at_most MOST_WORDS (words_of (parts text))
+
+-- ---- options
+
 -- a value is given at most once
-abbrev pub once : (before value : Option ℕ) → Option ℕ
+abbrev pub once : {A : Type 0} → (before value : Option A) → Option A
 once None value = value
 once (Some other) value = None
 
--- an option that is given beside others, if it is one and isn't given yet
+abbrev pub with_tags : Given → WordsSpec → Given
+with_tags given words = record { tags = Some words; steps = given.steps }
+
+-- an option that is given beside others, if it is one and isn't given yet: the tag words as a list, or by a seed
 abbrev pub add_tags : Given → List ℕ → Option Given
-add_tags given value = option_map (λ word. record { word = Some word; steps = given.steps }) (once given.word (tag_word value))
+add_tags given value = option_map (with_tags given) (once given.tags (option_map Cycle (tag_list value)))
+
+abbrev pub add_seed : Given → List ℕ → Option Given
+add_seed given value = option_map (with_tags given) (once given.tags (option_map Seed (number_of value)))
 
 abbrev pub add_steps : Given → List ℕ → Option Given
-add_steps given value = option_map (λ steps. record { word = given.word; steps = Some steps }) (once given.steps (step_bound value))
+add_steps given value = option_map (λ steps. record { tags = given.tags; steps = Some steps }) (once given.steps (step_bound value))
 
 unfoldable pub add_option : Given → (name value : List ℕ) → Option Given
 add_option given name value =
-    if bytes_eq name (codes "--tags") then add_tags given value else (if bytes_eq name (codes "--steps") then add_steps given value else None)
+    if bytes_eq name (codes "--tags") then add_tags given value
+    else (if bytes_eq name (codes "--seed") then add_seed given value else (if bytes_eq name (codes "--steps") then add_steps given value else None))
 
 -- options with their values, in any order
 abbrev pub options_after : List (List ℕ) → Option Given → Option Given
@@ -68,7 +105,7 @@ options_after (name ∷ []) (Some given) = None
 options_after (name ∷ value ∷ words) (Some given) = options_after words (add_option given name value)
 
 abbrev pub none_given : Given
-none_given = record { word = None; steps = None }
+none_given = record { tags = None; steps = None }
 
 -- run FILE, with options after it
 unfoldable pub line_with : (mode file : List ℕ) → Option Given → Option Line

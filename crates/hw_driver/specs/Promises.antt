@@ -7,9 +7,8 @@ use Rattle.hw_base.specs.declared.endings.Status.TheVariants.{Ended, Reported, B
 use Rattle.hw_ports.specs.Causes.{Rose}
 use Rattle.hw_ports.specs.Content.{Bytes}
 use Rattle.hw_driver.specs.Line.{Line}
-use Rattle.hw_driver.specs.Program.{Program}
 use Rattle.hw_driver.specs.Closing.{usage_line, file_fault_line, write_fault_line, memory_line}
-use Rattle.hw_driver.specs.Answer.{Decision, FileRead, FilesChange, ReadsNothing, ReadsOnce, ReadsAs, IsOneGlobal, Runs, RunsModule, Refuses, JudgesText, SinkChange, TookAll, TookFront, read_of, bad_words_decision, one_global_decision}
+use Rattle.hw_driver.specs.Answer.{Decision, FileRead, FilesChange, ReadsNothing, ReadsOnce, ReadsAs, RunsModule, Refuses, JudgesText, SinkChange, TookAll, TookFront, read_of, bad_words_decision}
 
 -- how often a name is among these
 abbrev pub times : List ℕ → List (List ℕ) → ℕ
@@ -39,7 +38,7 @@ pub record HasRun (words : Option Line) (files : FilesChange) (status : Status) 
   pub read : FileRead
   pub has_read : HasRead words files command read
   pub decision : Decision
-  pub runs : Runs command read decision
+  pub runs : RunsModule command read decision
   pub ending : decision.status ≡ status
 
 -- The cause of each answer.
@@ -81,21 +80,19 @@ pub record Shows (d : Decision) (result : Status) (out err : SinkChange) : Type 
   pub output : Appends out.taken_before out.taken_after d.output
   pub text : Appends err.taken_before err.taken_after d.text
 
--- a text is judged, and just that is delivered
+-- a text is judged in the one way in which it can be, and just that is delivered
 pub record ShowsJudged (l : Line) (read : FileRead) (result : Status) (out err : SinkChange) : Type 0 where
   pub decision : Decision
   pub judged : JudgesText l read decision
+  pub only : (other : Decision) → JudgesText l read other → other ≡ decision
   pub shows : Shows decision result out err
 
 -- Without a fault and with enough memory, the answer is that of the words and the text.
 pub record IsExact (words : Option Line) (files : FilesChange) (result : Status) (out err : SinkChange) : Type 0 where
   pub bad_words : words ≡ None → Shows bad_words_decision result out err
   pub judged : (l : Line) (bytes : List ℕ) → words ≡ Some l → files.content l.file ≡ Bytes bytes → ShowsJudged l (read_of bytes) result out err
-  pub one_global : (l : Line) (bytes : List ℕ) (p : Program) → words ≡ Some l → files.content l.file ≡ Bytes bytes
-      → IsOneGlobal (read_of bytes) p → Shows (one_global_decision l p) result out err
 
--- What is shown of a text that isn't of one global: the run of its module, of which the detection theorem holds for every input, or its
--- refusal.
+-- What is shown of a text: the run of its module, of which the detection theorem holds for every input, or its refusal.
 pub data ShowsModule (l : Line) (read : FileRead) (result : Status) (out err : SinkChange) : Type 0 where
   run_shown : (d : Decision) → RunsModule l read d → Shows d result out err → ShowsModule l read result out err
   refusal_shown : (d : Decision) → Refuses read d → Shows d result out err → ShowsModule l read result out err
@@ -135,5 +132,3 @@ pub record Closes (words : Option Line) (files : FilesChange) (out err : SinkCha
   pub no_line : words ≡ None → TookAll out [] × TookSome err usage_line
   pub judged : (l : Line) (bytes : List ℕ) → words ≡ Some l → files.content l.file ≡ Bytes bytes
       → TookAll out [] ⊎ TookJudged l (read_of bytes) out
-  pub one_global : (l : Line) (bytes : List ℕ) (p : Program) → words ≡ Some l → files.content l.file ≡ Bytes bytes → IsOneGlobal (read_of bytes) p
-      → TookPart out (one_global_decision l p).output

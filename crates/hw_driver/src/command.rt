@@ -1,9 +1,16 @@
-ghost use Rattle.hw_driver.specs.StepBounds.{HasBound};
+ghost use Rattle.hw_driver.specs.Given.{IsGiven};
 
-/// The options that are given: a tag word, and a bound on the steps.
+/// The tag words that are given: the text of a list of them, or a seed.
 #[derive(Clone, Copy)]
-pub struct Given {
-    pub word: Option<u8>,
+pub enum TagWords<'a> {
+    List(&'a str),
+    Seed(u64),
+}
+
+/// The options that are given: the tag words, and a bound on the steps.
+#[derive(Clone, Copy)]
+pub struct Given<'a> {
+    pub tags: Option<TagWords<'a>>,
     pub steps: Option<u64>,
 }
 
@@ -11,6 +18,6 @@ pub struct Given {
 #[derive(Clone, Copy)]
 pub struct Command<'a> {
     pub file: &'a str,
-    pub given: Given,
-    ghost in_range: { HasBound given.steps },
+    pub given: Given<'a>,
+    ghost in_range: { IsGiven given },
 }

@@ -1,27 +1,20 @@
-ghost use Rattle.std.specs.Prelude.{◌≡◌, ◌≤◌, ◌^◌, ℕ, List, length, IfOk, [], None};
+ghost use Rattle.std.specs.Prelude.{◌≡◌, IfOk, [], None};
 ghost use Rattle.built_rows.specs.Laws.{DeclaresAreThere};
 ghost use Rattle.built_rows.specs.Unbuilt.{unbuilt};
 ghost use Rattle.hw_ports.specs.Content.{AddsRead, failed_after};
 ghost use Rattle.hw_driver.specs.Line.{line};
-ghost use Rattle.hw_driver.specs.LineView.{texts, given_view, line_view};
+ghost use Rattle.hw_driver.specs.LineView.{texts, line_view};
 ghost use Rattle.hw_driver.specs.Decided.{decision_view};
-ghost use Rattle.hw_driver.specs.Views.{ending_view, ran_view, program_view};
-ghost use Rattle.hw_driver.specs.Answer.{Decides, files_change, JudgesFile, JudgesText, Whole, IsOther, too_long, IsRunOf, JudgesModule, bounded_decision, one_global_decision, refused_decision, given_word, tag_under};
+ghost use Rattle.hw_driver.specs.Answer.{Decides, files_change, JudgesFile, JudgesText, Whole, too_long, IsRunOf, JudgesModule, refused_decision};
 
-use crate::closing::{ended_text, report_text};
 use crate::command::Command;
 use crate::decision::{Decision, Text};
-use crate::options::{options_of, steps_or};
-use crate::program::Program;
-use crate::reading::read_program;
-use crate::runner::{Ending, Ran};
-use crate::running::run;
+use crate::options::options_of;
 use crate::words::line_of;
 use built_rows::unbuilt;
 use hw_base::{ByteList, MOST_TEXT, OutOfMemory, Status};
 use hw_ports::{FileError, FileText, Files};
-use hw_run::{run_gathered, spent_line};
-use hw_tags::{Words, WordsSpec, global_tag};
+use hw_run::run_gathered;
 use ir_accept::accept;
 use ir_check_flow::Checked;
 use ir_core::{Fault, Limit, ReadError, Refusal};
@@ -61,68 +54,7 @@ fn too_long(alloc: Global) -> Result<Decision, OutOfMemory>
     refused(alloc, &refusal)
 }
 
-// ---- texts of one global
-
-// The tag word that is given, or else the first of seed 1.
-fn word_or_first(alloc: Global, word: Option<u8>) -> Result<u8, OutOfMemory>
-    ensures { IfOk result (λ given. given ≡ given_word word) }
-{
-    match word {
-        Some(word) => Ok(word),
-        None => {
-            let mut words = Words::new(alloc, &WordsSpec::Seed(1))?;
-            Ok(words.next())
-        }
-    }
-}
-
-// The tag of the global under a command.
-fn tag_of(alloc: Global, command: &Command<'_>) -> Result<u8, OutOfMemory>
-    ensures { IfOk result (λ tag. tag ≡ tag_under (line_view command.now)) }
-{
-    Ok(global_tag(word_or_first(alloc, command.given.word)?, 0))
-}
-
-// The status and the closing text of a run under a bound.
-fn closing_of(alloc: Global, bound: u64, ending: &Ending) -> Result<(Status, ByteList), OutOfMemory>
-    ensures { IfOk result (λ closing. (output : List ℕ) → bounded_decision bound (ending_view output ending.now) ≡ record { status = closing.0; output = output; text = closing.1 }) }
-{
-    match ending {
-        Ending::Exited(step) => Ok((Status::Ended, ended_text(alloc, *step)?)),
-        Ending::Failed(failed) => Ok((Status::Reported, report_text(alloc, failed)?)),
-        Ending::Stopped => Ok((Status::Spent, spent_line(alloc, bound)?)),
-    }
-}
-
-// What a run that ended so under a bound comes to.
-fn judge_run(alloc: Global, bound: u64, ran: Ran) -> Result<Decision, OutOfMemory>
-    ensures { IfOk result (λ d. decision_view d ≡ bounded_decision bound (ran_view ran)) }
-{
-    let Ran { output, ending } = ran;
-    let (status, text) = closing_of(alloc, bound, &ending)?;
-    let text = Text::Own(text);
-    Ok(Decision {
-        status,
-        output,
-        text,
-    })
-}
-
-// What a program of one global comes to.
-fn judge_program(
-    alloc: Global,
-    command: &Command<'_>,
-    program: &Program,
-) -> Result<Decision, OutOfMemory>
-    ensures { IfOk result (λ d. decision_view d ≡ one_global_decision (line_view command.now) (program_view program.now)) }
-{
-    let tag = tag_of(alloc, command)?;
-    let bound = steps_or(command.given);
-    let ran = run(alloc, bound, tag, program)?;
-    judge_run(alloc, bound, ran)
-}
-
-// ---- all other texts
+// ---- texts
 
 // What an accepted module that the machine runs comes to.
 fn judge_module(
@@ -159,25 +91,14 @@ fn judge_checked(
     }
 }
 
-// What a text comes to that isn't of the form of one global.
-fn judge_other(alloc: Global, command: &Command<'_>, text: &[u8]) -> Result<Decision, OutOfMemory>
-    requires other { IsOther (Whole text.now) }
+// What a command and a text come to.
+fn judge_text(alloc: Global, command: &Command<'_>, text: &[u8]) -> Result<Decision, OutOfMemory>
     ensures { IfOk result (λ d. JudgesText (line_view command.now) (Whole text.now) (decision_view d)) }
 {
     match accept(alloc, text) {
         Ok(checked) => judge_checked(alloc, command, &checked),
         Err(ReadError::Refused(refusal)) => refused(alloc, &refusal),
         Err(ReadError::OutOfMemory) => Err(OutOfMemory),
-    }
-}
-
-// What a command and a text come to.
-fn judge_text(alloc: Global, command: &Command<'_>, text: &[u8]) -> Result<Decision, OutOfMemory>
-    ensures { IfOk result (λ d. JudgesText (line_view command.now) (Whole text.now) (decision_view d)) }
-{
-    match read_program(alloc, text)? {
-        Some(program) => judge_program(alloc, command, &program),
-        None => judge_other(alloc, command, text),
     }
 }
 

@@ -1,9 +1,12 @@
 ghost use Rattle.std.specs.Prelude.{◌≡◌, IfOk};
+ghost use Rattle.hw_tags.specs.Word.{IsWordsSpec};
+ghost use Rattle.hw_driver.specs.Given.{HasTags, tags_view};
 ghost use Rattle.hw_driver.specs.Answer.{tag_words, steps_or, IsOptionsOf};
 ghost use Rattle.hw_driver.specs.LineView.{line_view};
 
-use crate::command::{Command, Given};
-use hw_base::{ByteList, OutOfMemory};
+use crate::command::{Command, Given, TagWords};
+use crate::words::read_tag_list;
+use hw_base::OutOfMemory;
 use hw_tags::{Options, WordsSpec};
 use std::alloc::Global;
 
@@ -16,23 +19,22 @@ pub const HEAP: u64 = 16_777_216;
 /// How many of its last ended frames, and of its last freed blocks, each task remembers.
 pub const RING: u32 = 1_023;
 
-// The tag words: the one that is given, again and again, or else those of seed 1.
-fn tag_words(alloc: Global, word: Option<u8>) -> Result<WordsSpec, OutOfMemory>
-    ensures { IfOk result (λ words. words ≡ tag_words word) }
+// The tag words: those that are given, or else those of seed 1.
+fn tag_words(alloc: Global, tags: Option<TagWords<'_>>) -> Result<WordsSpec, OutOfMemory>
+    requires { HasTags tags }
+    ensures value { IfOk result (λ words. words ≡ tag_words (tags_view tags.entry)) }
+    ensures range { IfOk result IsWordsSpec }
 {
-    match word {
+    match tags {
         None => Ok(WordsSpec::Seed(1)),
-        Some(word) => {
-            let mut list = ByteList::new(alloc);
-            list.push(word)?;
-            Ok(WordsSpec::Cycle(list))
-        }
+        Some(TagWords::Seed(seed)) => Ok(WordsSpec::Seed(seed)),
+        Some(TagWords::List(text)) => Ok(WordsSpec::Cycle(read_tag_list(alloc, text)?)),
     }
 }
 
 /// The bound on the steps.
-pub fn steps_or(given: Given) -> u64
-    ensures value { result ≡ steps_or given.steps }
+fn steps_or(given: Given<'_>) -> u64
+    ensures value { result ≡ steps_or given.entry.steps }
 {
     match given.steps {
         None => STEPS,
@@ -44,7 +46,7 @@ pub fn steps_or(given: Given) -> u64
 pub fn options_of(alloc: Global, command: &Command<'_>) -> Result<Options, OutOfMemory>
     ensures { IfOk result (λ options. IsOptionsOf (line_view command.now) options) }
 {
-    let tags = tag_words(alloc, command.given.word)?;
+    let tags = tag_words(alloc, command.given.tags)?;
     let steps = steps_or(command.given);
     Ok(Options {
         tags,

@@ -1,13 +1,14 @@
-ghost use Rattle.std.specs.Prelude.{◌≡◌, ◌^◌, true, List, ℕ, Option, Some, option_map, map, length, string_bytes};
+ghost use Rattle.std.specs.Prelude.{◌≡◌, ◌^◌, true, List, ℕ, Option, Some, option_map, map, length, string_bytes, IfOk, IsSome};
 ghost use Rattle.std.specs.Char.{is_ascii_digit};
 ghost use Rattle.std.specs.List.{list_all};
-ghost use Rattle.hw_driver.specs.Line.{is_file, is_number, tag_word, is_bound, number_of, step_bound, add_tags, add_steps, add_option, options_after, none_given, line_with, line};
-ghost use Rattle.std.specs.Option.{ForSome};
-ghost use Rattle.hw_driver.specs.StepBounds.{HasBound};
+ghost use Rattle.std.specs.Option.{ForSome, is_some};
+ghost use Rattle.hw_driver.specs.Given.{HasBound, IsGiven};
+ghost use Rattle.hw_driver.specs.Line.{is_file, is_number, tag_word, tag_list, is_bound, number_of, step_bound, add_tags, add_seed, add_steps, add_option, options_after, none_given, line_with, line};
 ghost use Rattle.hw_driver.specs.LineView.{given_view, line_view, texts};
 
-use crate::command::{Command, Given};
-use hw_base::MOST_STEPS;
+use crate::command::{Command, Given, TagWords};
+use hw_base::{ByteList, MOST_STEPS, MOST_WORDS, OutOfMemory};
+use std::alloc::Global;
 
 fn is_file(name: &str) -> bool
     ensures { result ≡ is_file name.now }
@@ -64,30 +65,86 @@ fn step_bound(text: &str) -> Option<u64>
     if is_bound(steps) { Some(steps) } else { None }
 }
 
-fn add_tags(given: Given, value: &str) -> Option<Given>
-    requires { HasBound given.steps }
-    ensures value { option_map given_view result ≡ add_tags (given_view given) value.now }
-    ensures range { ForSome result (λ more. HasBound more.steps) }
+// ---- lists of tag words
+
+/// Whether a text is a list of tag words.
+#[tactic(auto, unfolding(crate::specs::Line::tag_list))]
+fn is_tag_list(text: &str) -> bool
+    ensures { result ≡ is_some (tag_list text.now) }
 {
-    match given.word {
+    let mut rest = text;
+    let mut left = MOST_WORDS;
+    while let Some((first, more)) = rest.split_once(',') {
+        if left <= 1 || tag_word(first).is_none() {
+            return false;
+        }
+        left -= 1;
+        rest = more;
+    }
+    tag_word(rest).is_some()
+}
+
+/// The list of tag words that a text is.
+#[tactic(auto, unfolding(crate::specs::Line::tag_list))]
+pub fn read_tag_list(alloc: Global, text: &str) -> Result<ByteList, OutOfMemory>
+    requires { IsSome (tag_list text.now) }
+    ensures { IfOk result (λ list. tag_list text.now ≡ Some list) }
+{
+    let mut list = ByteList::new(alloc);
+    let mut rest = text;
+    while let Some((first, more)) = rest.split_once(',') {
+        list.push(tag_word(first).unwrap())?;
+        rest = more;
+    }
+    list.push(tag_word(rest).unwrap())?;
+    Ok(list)
+}
+
+// ---- options
+
+fn add_tags<'a>(given: Given<'a>, value: &'a str) -> Option<Given<'a>>
+    requires { IsGiven given }
+    ensures value { option_map given_view result ≡ add_tags (given_view given.entry) value.now }
+    ensures range { ForSome result IsGiven }
+{
+    match given.tags {
         None => {
-            let word = Some(tag_word(value)?);
+            if !is_tag_list(value) {
+                return None;
+            }
+            let tags = Some(TagWords::List(value));
             let steps = given.steps;
-            Some(Given { word, steps })
+            Some(Given { tags, steps })
         }
         Some(_) => None,
     }
 }
 
-fn add_steps(given: Given, value: &str) -> Option<Given>
-    ensures value { option_map given_view result ≡ add_steps (given_view given) value.now }
-    ensures range { ForSome result (λ more. HasBound more.steps) }
+fn add_seed<'a>(given: Given<'a>, value: &str) -> Option<Given<'a>>
+    requires { IsGiven given }
+    ensures value { option_map given_view result ≡ add_seed (given_view given.entry) value.now }
+    ensures range { ForSome result IsGiven }
+{
+    match given.tags {
+        None => {
+            let tags = Some(TagWords::Seed(number_of(value)?));
+            let steps = given.steps;
+            Some(Given { tags, steps })
+        }
+        Some(_) => None,
+    }
+}
+
+fn add_steps<'a>(given: Given<'a>, value: &str) -> Option<Given<'a>>
+    requires { IsGiven given }
+    ensures value { option_map given_view result ≡ add_steps (given_view given.entry) value.now }
+    ensures range { ForSome result IsGiven }
 {
     match given.steps {
         None => {
             let steps = Some(step_bound(value)?);
-            let word = given.word;
-            Some(Given { word, steps })
+            let tags = given.tags;
+            Some(Given { tags, steps })
         }
         Some(_) => None,
     }
@@ -95,13 +152,15 @@ fn add_steps(given: Given, value: &str) -> Option<Given>
 
 // An option with its value beside others, if it is one and isn't given yet.
 #[tactic(auto, unfolding(crate::specs::Line::add_option))]
-fn add_option(given: Given, name: &str, value: &str) -> Option<Given>
-    requires { HasBound given.steps }
-    ensures value { option_map given_view result ≡ add_option (given_view given) name.now value.now }
-    ensures range { ForSome result (λ more. HasBound more.steps) }
+fn add_option<'a>(given: Given<'a>, name: &str, value: &'a str) -> Option<Given<'a>>
+    requires { IsGiven given }
+    ensures value { option_map given_view result ≡ add_option (given_view given.entry) name.now value.now }
+    ensures range { ForSome result IsGiven }
 {
     if name == "--tags" {
         add_tags(given, value)
+    } else if name == "--seed" {
+        add_seed(given, value)
     } else if name == "--steps" {
         add_steps(given, value)
     } else {
@@ -110,12 +169,12 @@ fn add_option(given: Given, name: &str, value: &str) -> Option<Given>
 }
 
 // The options that words after FILE are.
-fn options_of(words: &[String]) -> Option<Given>
+fn options_of(words: &[String]) -> Option<Given<'_>>
     ensures value { option_map given_view result ≡ options_after (texts words.now) (Some none_given) }
-    ensures range { ForSome result (λ given. HasBound given.steps) }
+    ensures range { ForSome result IsGiven }
 {
     let mut given = Given {
-        word: None,
+        tags: None,
         steps: None,
     };
     let mut rest = words;
@@ -127,7 +186,7 @@ fn options_of(words: &[String]) -> Option<Given>
 }
 
 #[tactic(auto, unfolding(crate::specs::Line::line_with))]
-fn line_with<'a>(mode: &str, file: &'a str, words: &[String]) -> Option<Command<'a>>
+fn line_with<'a>(mode: &str, file: &'a str, words: &'a [String]) -> Option<Command<'a>>
     ensures { option_map line_view result ≡ line_with mode.now file.now (options_after (texts words.now) (Some none_given)) }
 {
     if mode == "run" && is_file(file) {

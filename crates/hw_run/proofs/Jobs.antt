@@ -24,7 +24,9 @@ use Rattle.hw_run.specs.declared.ends.Gathered.{Gathered}
 use Rattle.hw_run.specs.declared.ends.RunEnd.{RunEnd}
 use Rattle.hw_run.specs.declared.ends.RunEnd.TheVariants as run_end
 use Rattle.hw_run.specs.declared.ends.StepsMade.{StepsMade}
-use Rattle.hw_run.specs.Closing.{ended_line, trapped_line, full_line, chain_lines, end_text, status_of}
+use Rattle.hw_report.specs.ReportText.{report_lines}
+use Rattle.hw_report.specs.Sites.{chain_lines}
+use Rattle.hw_run.specs.Closing.{ended_line, trapped_line, full_line, end_text, status_of}
 use Rattle.hw_run.specs.RunEnds.{IsRun, IsRunEnd, IsGathered, ShowsEnding}
 use Rattle.hw_run.proofs.RunSteps.{reported-before}
 
@@ -52,7 +54,11 @@ ending-shown m bound w output (Trapped trap task chain) (run_end.Trap t k number
     ap (λ (table : List ChainEntry). chain_lines m (chain_of table number)) chains ∙ ap (λ (n : ℕ). chain_lines m (chain_of w.shared.chains n)) same_chain in
     record { output_is = bytes; status_is = status; text_is = cc }
 ending-shown m bound w output (Reported raw) (run_end.Mismatch found) step shared gathered is steps same bytes status text =
-    record { output_is = bytes; status_is = status; text_is = text }
+    record {
+      output_is = bytes;
+      status_is = status;
+      text_is = text ∙ (ap (report_lines m shared.chains) is ∙ ap (λ (s : MachineShared). report_lines m s.chains raw) (sym same));
+    }
 ending-shown m bound w output (IsFull full) (run_end.Full found) step shared gathered is steps same bytes status text =
     record { output_is = bytes; status_is = status; text_is = text ∙ (ap (λ f. full_line f step) is ∙ ap (full_line full) (sym steps)) }
 ending-shown m bound w output ending other step shared gathered is steps same bytes status text = absurd is
@@ -80,7 +86,7 @@ job-shown program options input code start after made gathered runnable same sta
     let turns = word options.turns in
     let go = run_from (step_in setting) [] turns options.steps in
     let begun : machine_start setting ≡ Next (world_of start) [] =
-    started.world setting (record { program_is = refl; code_is = sym same; places_are = refl; ring_is = refl }) in
+    started.world setting (record { program_is = refl; code_is = sym same; places_are = refl; ring_is = refl; word_is = refl }) in
     let whole : run_of program options input ≡ after_report [] (go (world_of start)) = ap (after_step go) begun in
     let has : HasCode setting start.code = record { code = sym (started.code ∙ same); most_frames = refl } in
     run-shown program options.steps (run_of program options input) made after gathered

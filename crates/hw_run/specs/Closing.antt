@@ -1,6 +1,5 @@
--- The closing text of a run. A site is shown by the name of its function while debug locations aren't followed. This project's
--- choice, after the stacks in the reports of Clang's sanitizers.
-use Rattle.std.specs.Prelude.{ℕ, ℤ, List, [], ◌∷◌, ◌++◌, codes, slice_get, Option, Some, None}
+-- The closing text of a run. This project's choice.
+use Rattle.std.specs.Prelude.{ℕ, ℤ, List, ◌++◌, codes}
 use Rattle.std.specs.Fmt.{decimal, signed_decimal}
 use Rattle.hw_base.specs.declared.endings.Full.{Full}
 use Rattle.hw_base.specs.declared.endings.Space.{Space}
@@ -9,31 +8,12 @@ use Rattle.hw_base.specs.declared.endings.Status.{Status}
 use Rattle.hw_base.specs.declared.endings.Status.TheVariants as status
 use Rattle.hw_base.specs.declared.endings.Trap.{Trap}
 use Rattle.hw_base.specs.declared.endings.Trap.TheVariants.{DivZero, DivOverflow, Unreachable, ReadOnly, TooDeep, Abort}
-use Rattle.hw_base.specs.declared.pointers.Site.{Site}
 use Rattle.dbg_sites.specs.ChainTable.{ChainEntry, chain_of}
-use Rattle.ir_core.specs.declared.ir_module.Function.{Function}
 use Rattle.ir_core.specs.declared.ir_module.Module.{Module}
+use Rattle.hw_report.specs.ReportText.{report_lines}
+use Rattle.hw_report.specs.Sites.{chain_lines}
 use Rattle.hw_run.specs.declared.ends.RunEnd.{RunEnd}
 use Rattle.hw_run.specs.declared.ends.RunEnd.TheVariants as run_end
-
--- ---- sites
-
-abbrev pub name_of : Option Function → List ℕ
-name_of None = []
-name_of (Some function) = function.name
-
--- the name of a function by its number
-abbrev pub function_name : Module → ℕ → List ℕ
-function_name m func = name_of (slice_get m.functions func)
-
--- a site without a debug location
-abbrev pub site_line : Module → Site → List ℕ
-site_line m site = codes "  at " ++ function_name m site.func ++ codes " ?\n"
-
--- the sites of a chain, innermost first
-abbrev pub chain_lines : Module → List Site → List ℕ
-chain_lines m [] = []
-chain_lines m (site ∷ sites) = site_line m site ++ chain_lines m sites
 
 -- ---- ends
 
@@ -87,7 +67,7 @@ abbrev pub end_text : Module → List ChainEntry → (step bound : ℕ) → RunE
 end_text m chains step bound run_end.Spent = spent_line bound
 end_text m chains step bound (run_end.Exit value) = ended_line value step
 end_text m chains step bound (run_end.Trap trap task chain) = trapped_line trap task step ++ chain_lines m (chain_of chains chain)
-end_text m chains step bound (run_end.Mismatch raw) = []
+end_text m chains step bound (run_end.Mismatch raw) = report_lines m chains raw
 end_text m chains step bound (run_end.Full full) = full_line full step
 
 abbrev pub status_of : RunEnd → Status

@@ -1,5 +1,5 @@
 -- What a run's loop and the whole job return, by the definition's run. This project's choice.
-use Rattle.std.specs.Prelude.{◌≡◌, ℕ, List, [], ◌++◌}
+use Rattle.std.specs.Prelude.{◌≡◌, ℕ, List, ◌++◌}
 use Rattle.std.specs.Int.{w32, cast_signed}
 use Rattle.hw_base.specs.declared.endings.Status.{Status}
 use Rattle.hw_base.specs.declared.endings.Status.TheVariants as status
@@ -9,7 +9,9 @@ use Rattle.ir_core.specs.declared.ir_module.Module.{Module}
 use Rattle.ir_machine.specs.MachineStates.{MachineState, world_of}
 use Rattle.ir_machine.specs.Shown.{output_of}
 use Rattle.ir_machine.specs.State.{MachineWorld, MachineEnding, MachineRun, Exited, Trapped, Reported, IsFull}
-use Rattle.hw_run.specs.Closing.{ended_line, trapped_line, spent_line, full_line, chain_lines}
+use Rattle.hw_report.specs.ReportText.{report_lines}
+use Rattle.hw_report.specs.Sites.{chain_lines}
+use Rattle.hw_run.specs.Closing.{ended_line, trapped_line, spent_line, full_line}
 use Rattle.hw_run.specs.declared.ends.Gathered.{Gathered}
 use Rattle.hw_run.specs.declared.ends.RunEnd.{RunEnd}
 use Rattle.hw_run.specs.declared.ends.RunEnd.TheVariants as run_end
@@ -52,12 +54,12 @@ pub record Shows (output : List ℕ) (of_end : Status) (text : List ℕ) (gather
   pub status_is : gathered.status ≡ of_end
   pub text_is : gathered.text ≡ text
 
--- what a run shows that ended in a world. The lines of a report aren't built yet.
+-- what a run shows that ended in a world
 abbrev pub ShowsEnding : Module → MachineWorld → (output : List ℕ) → MachineEnding → Gathered → Type 0
 ShowsEnding m w output (Exited n) gathered = Shows output status.Ended (ended_line (cast_signed w32 n) w.steps) gathered
 ShowsEnding m w output (Trapped trap task chain) gathered =
     Shows output status.Trapped (trapped_line trap task w.steps ++ chain_lines m (chain_of w.shared.chains chain)) gathered
-ShowsEnding m w output (Reported raw) gathered = Shows output status.Reported [] gathered
+ShowsEnding m w output (Reported raw) gathered = Shows output status.Reported (report_lines m w.shared.chains raw) gathered
 ShowsEnding m w output (IsFull full) gathered = Shows output status.Full (full_line full w.steps) gathered
 
 -- what the job returns of a run under a bound, which is never stuck

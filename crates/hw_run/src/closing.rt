@@ -2,8 +2,8 @@ ghost use Rattle.std.specs.Prelude.{◌≡◌, IfOk, string_bytes};
 ghost use Rattle.hw_run.specs.Closing.{step_text, exit_text, ended_line, trap_word, trap_text, trapped_line, spent_line, space_word, asked_text, living_text, full_line, end_text};
 
 use crate::ends::RunEnd;
-use crate::sites::chain_text;
 use hw_base::{ByteList, Full, OutOfMemory, Space, Trap};
+use hw_report::{chain_text, report_text};
 use ir_core::Module;
 use ir_machine::Machine;
 use std::alloc::Global;
@@ -101,7 +101,7 @@ fn trapped_line(alloc: Global, trap: Trap, task: u32, step: u64) -> Result<Vec<u
     Ok(text.into_bytes())
 }
 
-/// The closing text of a machine's run under a bound that came to an end: nothing after a failed check.
+/// The closing text of a machine's run under a bound that came to an end.
 pub fn closing_text(
     alloc: Global,
     program: &Module,
@@ -120,7 +120,7 @@ pub fn closing_text(
             text.extend_from_slice(chain.as_slice())?;
             Ok(ByteList::from_vec(text))
         }
-        RunEnd::Mismatch(_) => Ok(ByteList::new(alloc)),
+        RunEnd::Mismatch(raw) => report_text(alloc, program, machine.chains(), &raw),
         RunEnd::Full(full) => full_line(alloc, full, machine.steps()),
     }
 }

@@ -19,8 +19,7 @@ pub struct StepsMade {
     pub end: RunEnd,
 }
 
-/// What a whole run shows: the bytes that the program printed, the status, and the closing text, which is empty after a failed
-/// check.
+/// What a whole run shows: the bytes that the program printed, the status, and the closing text.
 #[derive(Drop)]
 pub struct Gathered {
     pub output: ByteList,

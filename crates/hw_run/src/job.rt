@@ -1,4 +1,5 @@
-ghost use Rattle.std.specs.Prelude.{◌≡◌, ℕ, List, [], IfOk};
+ghost use Rattle.std.specs.Prelude.{◌≡◌, ℕ, List, IfOk};
+ghost use Rattle.global_tags.specs.Loading.{CanBeLoaded};
 ghost use Rattle.ir_core.specs.Runnable.{IsRunnable};
 ghost use Rattle.ir_machine.specs.Built.{IsBuiltCode};
 ghost use Rattle.ir_machine.specs.Runs.{run_of};
@@ -28,7 +29,7 @@ fn status_of(end: RunEnd) -> Status
     }
 }
 
-/// The whole run of a module without globals whose code has only instructions that the machine runs: what it prints, its status
+/// The whole run of a module whose code has only instructions that the machine runs: what it prints, its status
 /// and its closing text are those of the definition's run, for every input. The error is that memory ran out.
 pub fn run_gathered(
     alloc: Global,
@@ -39,7 +40,7 @@ pub fn run_gathered(
     requires runnable { IsRunnable program.now }
     requires instrumented { code ≡ instrumented program.now }
     requires built { IsBuiltCode code }
-    requires no_globals { program.now.globals ≡ [] }
+    requires globals { CanBeLoaded program.now }
     ensures { IfOk result (λ gathered. (input : List ℕ) → IsGathered program.now options.now.steps (run_of program.now options.now input) gathered) }
 {
     let bound = options.steps;

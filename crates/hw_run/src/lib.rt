@@ -5,7 +5,6 @@ mod closing;
 mod ends;
 mod gathering;
 mod job;
-mod sites;
 mod steps;
 
 pub use closing::{closing_text, spent_line};

@@ -1,11 +1,13 @@
 //! The program over files, input and output in memory. Every expected text is worked out by hand from the forms of
-//! the closing texts, the address map (the global from 10000, the stacks from 10000000 to 11000000, the heap from
-//! 20000000 to 21000000, in hexadecimal) and the formula of the global's tag.
+//! the closing texts, the address map (the globals from 10000, the stacks from 10000000 to 11000000, the heap from
+//! 20000000 to 21000000, in hexadecimal) and the formula of a global's tag.
 mod bounds;
 mod clang;
 mod faults;
+mod globals;
 mod modules;
 mod reports;
+mod words;
 
 use hw_base::OutOfMemory;
 use hw_driver::hwasan;
@@ -14,15 +16,10 @@ use std::alloc::Global;
 use std::process::Abort;
 use std::test::Fail;
 
-const USAGE: &str = "usage: hwasan_ir MODE FILE [options]\n";
-
-/// The first part that the machine doesn't run is at the start of the text: the global.
-const GLOBAL_FIRST: &str = "refused: 3 Unsupported at 1:1\n";
-
 /// The most bytes that a sink takes.
 const ROOM: u64 = 65_536;
 
-/// The words of a run whose global has the tag 13, in hexadecimal.
+/// The words of a run whose first global has the tag 13, in hexadecimal.
 const TAG_13: [&str; 4] = ["run", "t.ll", "--tags", "3"];
 
 /// How the ports behave: the most bytes of a write, and the number of the call that fails (0 for none) of `out`, of `err`
@@ -211,92 +208,12 @@ fn nothing_printed_is_no_write(rt: HostRuntime) -> Result<(), Fail> {
     expect(&rt, &TAG_13, text.as_bytes(), &ports, expected)
 }
 
-/// Asserts that the words are no command: they are answered by the usage line.
-fn expect_usage<R: AllocGlobal + Abort>(rt: &R, words: &[&str]) -> Result<(), Fail> {
-    let text = store_and_print(rt.alloc())?;
-    expect(
-        rt,
-        words,
-        text.as_bytes(),
-        &NO_FAULT,
-        (2, b"", USAGE.as_bytes()),
-    )
-}
-
-#[test]
-fn other_words_are_answered_by_the_usage_line(rt: HostRuntime) -> Result<(), Fail> {
-    let lines: [&[&str]; 16] = [
-        &[],
-        &["run"],
-        &["t.ll"],
-        &["Run", "t.ll"],
-        &["audit", "t.ll"],
-        &["run", "-t.ll"],
-        &["run", "-"],
-        &["run", "t.ll", "t.ll"],
-        &["run", "t.ll", "--tags"],
-        &["run", "t.ll", "--tags", ""],
-        &["run", "t.ll", "--tags", "256"],
-        &["run", "t.ll", "--tags", "+3"],
-        &["run", "t.ll", "--tags", "3 "],
-        &["run", "t.ll", "--seed", "1"],
-        &["run", "--tags", "3", "t.ll"],
-        &["run", "t.ll", "--tags", "3", "x"],
-    ];
-    for words in lines {
-        expect_usage(&rt, words)?;
-    }
-    Ok(())
-}
-
-#[test]
-fn other_bounds_are_answered_by_the_usage_line(rt: HostRuntime) -> Result<(), Fail> {
-    let lines: [&[&str]; 14] = [
-        &["run", "t.ll", "--steps"],
-        &["run", "t.ll", "--steps", ""],
-        &["run", "t.ll", "--steps", "0"],
-        &["run", "t.ll", "--steps", "1000000001"],
-        &["run", "t.ll", "--steps", "18446744073709551617"],
-        &["run", "t.ll", "--steps", "+3"],
-        &["run", "t.ll", "--steps", "-3"],
-        &["run", "t.ll", "--steps", "3a"],
-        &["run", "--steps", "3", "t.ll"],
-        &["run", "t.ll", "--steps", "3", "--steps", "3"],
-        &["run", "t.ll", "--tags", "3", "--tags", "3"],
-        &["run", "t.ll", "--steps", "3", "--tags"],
-        &["run", "t.ll", "--tags", "3", "--steps"],
-        &["run", "t.ll", "--steps", "3", "--tags", "3", "--steps", "3"],
-    ];
-    for words in lines {
-        expect_usage(&rt, words)?;
-    }
-    Ok(())
-}
-
 /// Asserts that the text is refused with this line.
 fn expect_refused<R: AllocGlobal + Abort>(rt: &R, text: &[u8], line: &str) -> Result<(), Fail> {
     expect(rt, &TAG_13, text, &NO_FAULT, (3, b"", line.as_bytes()))
 }
 
-/// They are modules all the same, each with a global.
-#[test]
-fn texts_of_nearly_one_global_are_refused_at_the_global(rt: HostRuntime) -> Result<(), Fail> {
-    let alloc = rt.alloc();
-    let texts = [
-        format!(in alloc; "{}\n", store_and_print(alloc)?)?,
-        program(alloc, 0, &[])?,
-        program(alloc, 24, &[])?,
-        program(alloc, 4112, &[])?,
-        program(alloc, 16, &[store(alloc, 1, 4_294_967_296)?])?,
-        program(alloc, 16, &[load(alloc, 1, 0)?])?,
-    ];
-    for text in &texts {
-        expect_refused(&rt, text.as_bytes(), GLOBAL_FIRST)?;
-    }
-    Ok(())
-}
-
-/// A fault is told before a part that the machine doesn't run: the value is the tenth character of line 4.
+/// The value is the tenth character of line 4.
 #[test]
 fn a_value_that_is_no_byte_is_refused_at_its_place(rt: HostRuntime) -> Result<(), Fail> {
     let text = program(rt.alloc(), 16, &[store(rt.alloc(), 256, 0)?])?;

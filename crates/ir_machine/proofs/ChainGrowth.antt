@@ -3,16 +3,23 @@ use Rattle.std.proofs.Common.{◌≡◌, ◌≢◌, ℕ, zero, suc, ◌+◌, ◌
 use Rattle.std.specs.Prelude.{nat_le}
 use Rattle.std.proofs.lemmas.List.{length_push}
 use Rattle.hw_base.specs.declared.endings.Input.{Input}
+use Rattle.hw_base.specs.declared.endings.Input.TheVariants.{End}
+use Rattle.hw_base.specs.declared.accesses.Access.{Access}
+use Rattle.hw_base.specs.declared.accesses.Access.TheVariants.{Read, Write}
 use Rattle.hw_base.specs.declared.endings.Trap.{Trap}
-use Rattle.hw_base.specs.declared.endings.Trap.TheVariants.{Abort, TooDeep, Unreachable}
+use Rattle.hw_base.specs.declared.endings.Trap.TheVariants.{Abort, TooDeep, Unreachable, ReadOnly as ConstantWritten}
 use Rattle.hw_base.specs.declared.pointers.Site.{Site}
+use Rattle.hw_shadow.specs.declared.mismatch.Mismatch.TheVariants.{Unmapped as NotMapped}
+use Rattle.hw_shadow.specs.declared.mismatch.Mismatch.{Mismatch}
+use Rattle.ir_machine.specs.CheckSteps.{on_check, one_step}
+use Rattle.tbi_memory.specs.AddressSpace.{AddressSpace}
+use Rattle.tbi_memory.specs.declared.mem_fault.MemFault.{MemFault}
+use Rattle.tbi_memory.specs.declared.mem_fault.MemFault.TheVariants.{Unmapped, ReadOnly}
 use Rattle.hw_tags.specs.TaskRuns.{Goes, Stays, Starts, Finishes, Ends, Stuck}
 use Rattle.ir_core.specs.declared.lib_functions.Lib.{Lib}
 use Rattle.ir_core.specs.declared.lib_functions.Lib.TheVariants as lib
 use Rattle.dbg_sites.specs.ChainTable.{ChainEntry, pushed, numbered, entry_from}
 use Rattle.mi_code.specs.declared.code_functions.CodeFunction.{CodeFunction}
-use Rattle.mi_code.specs.declared.code_functions.Mark.{Mark}
-use Rattle.mi_code.specs.declared.code_functions.Mark.TheVariants.{Entry, Added, Source}
 use Rattle.mi_code.specs.declared.operands.MiOperand.{MiOperand}
 use Rattle.mi_code.specs.declared.operations.MiOp.{MiOp}
 use Rattle.mi_code.specs.declared.operations.MiOp.TheVariants as machine
@@ -21,13 +28,18 @@ use Rattle.ir_machine.specs.declared.progress.Progress.{Progress}
 use Rattle.ir_machine.specs.declared.progress.Progress.TheVariants.{Ran, Printed, Returned, Ended, NoMemory}
 use Rattle.ir_machine.specs.ArithmeticSteps.{binary_step, icmp_step, cast_step, bits_step, overflow_step, select_step, freeze_step, extract_step, gives_or_traps}
 use Rattle.ir_machine.specs.BranchSteps.{br_step, br_if_step, switch_step, unreachable_step}
-use Rattle.ir_machine.specs.Built.{IsBuiltOp, IsBuiltFunction, IsBuiltCode, HasCode}
+use Rattle.ir_machine.specs.Built.{IsBuiltOp, IsNoCheck, IsBuiltFunction, IsBuiltCode, HasCode}
 use Rattle.ir_machine.specs.CallSteps.{code_at, begins_with_entry, call_step, frame_left, last_left, ret_step}
-use Rattle.ir_machine.specs.InstructionStep.{operation_step, marked_step}
+use Rattle.ir_machine.specs.InstructionStep.{operation_step}
 use Rattle.ir_machine.specs.LibraryCalls.{library_step}
 use Rattle.ir_machine.specs.RunStates.{RunState, IsOutcome}
 use Rattle.ir_machine.specs.State.{MachineSetting, MachineSeen, MachineOutcome, MachineShared}
-use Rattle.ir_machine.specs.StepEnds.{traps}
+use Rattle.ir_machine.specs.AddressSteps.{gep_step}
+use Rattle.ir_machine.specs.MemorySteps.{load_step, number_of_bytes, store_step}
+use Rattle.ir_machine.specs.Operands.{bits_in, bytes_in, pointer_in}
+use Rattle.ir_machine.specs.declared.found.Found.{Found}
+use Rattle.ir_machine.specs.declared.found.Found.TheVariants.{Memory}
+use Rattle.ir_machine.specs.StepEnds.{gives, goes_on, on_bytes, on_memory, refused_at, report_at, traps}
 use Rattle.ir_machine.specs.TextFunctions.{putchar_step, exit_step, abort_step}
 use Rattle.ir_machine.proofs.BuiltCode.{built-no_entry}
 
@@ -89,35 +101,62 @@ library-few setting given s site lib.Abort to args start h = traps-few s site Ab
 library-few setting given s site lib.LlvmTrap to args start h = traps-few s site Abort
 library-few setting given s site other to args start h = absurd h
 
--- each instruction that the machine runs adds one chain at most
-pub operation-few : (setting : MachineSetting) (given : Input) (site : Site) (next : MachineSeen → MachineOutcome) (s : MachineSeen) (op : MiOp)
-    → IsBuiltOp op → IsBuiltCode setting.code → HasFew (length s.shared.chains + 1) (operation_step setting given site next s op)
-unfolding HasFew binary_step icmp_step cast_step bits_step overflow_step select_step freeze_step extract_step br_step br_if_step switch_step unreachable_step ret_step
-operation-few setting given site next s (machine.Binary op width to a b) h all = gives_or_traps-few s site to _
-operation-few setting given site next s (machine.Icmp pred width to a b) h all = omega arith
-operation-few setting given site next s (machine.Cast op from width to a) h all = omega arith
-operation-few setting given site next s (machine.Bits op width to args) h all = omega arith
-operation-few setting given site next s (machine.Overflow op width to a b) h all = omega arith
-operation-few setting given site next s (machine.Select to cond a b) h all = omega arith
-operation-few setting given site next s (machine.Freeze to a) h all = omega arith
-operation-few setting given site next s (machine.Part to pair part) h all = omega arith
-operation-few setting given site next s machine.Nop h all = omega arith
-operation-few setting given site next s (machine.Jump edge) h all = omega arith
-operation-few setting given site next s (machine.Branch cond first second) h all = omega arith
-operation-few setting given site next s (machine.Switch width on other cases) h all = omega arith
-operation-few setting given site next s (machine.Call func to args) h all = call-few setting s site func args (built-no_entry setting.code func all)
-operation-few setting given site next s (machine.CallLib function to args start) h all = library-few setting given s site function to args start h
-operation-few setting given site next s (machine.Ret value) h all = frame_left-few setting s s.callers _
-operation-few setting given site next s machine.Unreachable h all = traps-few s site Unreachable
-operation-few setting given site next s other h all = absurd h
-
--- so does a marked one
-pub marked-few : (setting : MachineSetting) (given : Input) (next : MachineSeen → MachineOutcome) (s : MachineSeen) (mark : Mark) (op : MiOp)
-    → IsBuiltOp op → IsBuiltCode setting.code → HasFew (length s.shared.chains + 1) (marked_step setting given next s mark op)
+report-few : (s : MachineSeen) (site : Site) (access : Access) (size number : ℕ) (found : Found) → HasFew (length s.shared.chains + 1) (report_at s site access size number found)
 unfolding HasFew
-marked-few setting given next s Entry op h all = tt
-marked-few setting given next s (Added site) op h all = operation-few setting given site next s op h all
-marked-few setting given next s (Source site) op h all = operation-few setting given site next s op h all
+report-few s site access size number found = length-pushed s.shared.chains s.frame.chain site
+
+refused-few : (s : MachineSeen) (site : Site) (access : Access) (size number : ℕ) (fault : MemFault) → HasFew (length s.shared.chains + 1) (refused_at s site access size number fault)
+refused-few s site access size number (Unmapped address) = report-few s site access size number (Memory (NotMapped address))
+refused-few s site access size number ReadOnly = traps-few s site ConstantWritten
+
+load-few : (s : MachineSeen) (site : Site) (to width size number : ℕ) (r : Result (List ℕ) MemFault)
+    → HasFew (length s.shared.chains + 1) (on_bytes s site Read size number r (λ bytes. gives s to (number_of_bytes width bytes)))
+unfolding HasFew
+load-few s site to width size number (Ok bytes) = omega arith
+load-few s site to width size number (Err fault) = refused-few s site Read size number fault
+
+store-few : (s : MachineSeen) (site : Site) (size number : ℕ) (r : Result AddressSpace MemFault)
+    → HasFew (length s.shared.chains + 1) (on_memory s site size number r goes_on)
+unfolding HasFew
+store-few s site size number (Ok memory) = omega arith
+store-few s site size number (Err fault) = refused-few s site Write size number fault
+
+check-few : (s : MachineSeen) (site : Site) (access : Access) (size number : ℕ) (r : Option Mismatch)
+    → HasFew (length s.shared.chains + 1) (on_check s site access size number (λ after. Stuck) r)
+unfolding HasFew
+check-few s site access size number None = tt
+check-few s site access size number (Some found) = report-few s site access size number (Memory found)
+
+-- so does a check that fails
+pub one-few : (s : MachineSeen) (site : Site) (at : MiOperand) (size : ℕ) (access : Access) → HasFew (length s.shared.chains + 1) (one_step s site at size access (λ after. Stuck))
+unfolding one_step
+one-few s site at size access = check-few s site access size (pointer_in s at) _
+
+-- each instruction that the machine runs and that is no check adds one chain at most
+pub operation-few : (setting : MachineSetting) (given : Input) (site : Site) (next : MachineSeen → MachineOutcome) (s : MachineSeen) (op : MiOp)
+    → IsBuiltOp op → IsNoCheck op → IsBuiltCode setting.code → HasFew (length s.shared.chains + 1) (operation_step setting given site next s op)
+unfolding HasFew gep_step load_step store_step binary_step icmp_step cast_step bits_step overflow_step select_step freeze_step extract_step br_step br_if_step switch_step unreachable_step ret_step
+operation-few setting given site next s (machine.Binary op width to a b) h other_op all = gives_or_traps-few s site to _
+operation-few setting given site next s (machine.Icmp pred width to a b) h other_op all = omega arith
+operation-few setting given site next s (machine.Cast op from width to a) h other_op all = omega arith
+operation-few setting given site next s (machine.Bits op width to args) h other_op all = omega arith
+operation-few setting given site next s (machine.Overflow op width to a b) h other_op all = omega arith
+operation-few setting given site next s (machine.Select to cond a b) h other_op all = omega arith
+operation-few setting given site next s (machine.Freeze to a) h other_op all = omega arith
+operation-few setting given site next s (machine.Part to pair part) h other_op all = omega arith
+operation-few setting given site next s machine.Nop h other_op all = omega arith
+operation-few setting given site next s (machine.Jump edge) h other_op all = omega arith
+operation-few setting given site next s (machine.Branch cond first second) h other_op all = omega arith
+operation-few setting given site next s (machine.Switch width on other cases) h other_op all = omega arith
+operation-few setting given site next s (machine.Call func to args) h other_op all = call-few setting s site func args (built-no_entry setting.code func all)
+operation-few setting given site next s (machine.CallLib function to args start) h other_op all = library-few setting given s site function to args start h
+operation-few setting given site next s (machine.Ret value) h other_op all = frame_left-few setting s s.callers _
+operation-few setting given site next s machine.Unreachable h other_op all = traps-few s site Unreachable
+operation-few setting given site next s (machine.Gep to base indices) h other_op all = omega arith
+operation-few setting given site next s (machine.Load width to at) h other_op all = load-few s site to (bits_in width) (bytes_in width) (pointer_in s at) _
+operation-few setting given site next s (machine.Store width value at) h other_op all = store-few s site _ (pointer_in s at) _
+operation-few setting given site next s (machine.One at size access) h other_op all = absurd other_op
+operation-few setting given site next s other h other_op all = absurd h
 
 -- some setting with this code
 unfoldable pub setting_with : List CodeFunction → MachineSetting
@@ -134,6 +173,12 @@ setting_with code =
 pub setting_with-code : (code : List CodeFunction) → HasCode (setting_with code) code
 unfolding setting_with
 setting_with-code code = record { code = refl; most_frames = refl }
+
+-- an instruction of code that the machine runs, in some setting with it
+pub few-here : (code : List CodeFunction) (site : Site) (next : MachineSeen → MachineOutcome) (s : MachineSeen) (op : MiOp)
+    → IsBuiltOp op → IsNoCheck op → IsBuiltCode code → HasFew (length s.shared.chains + 1) (operation_step (setting_with code) End site next s op)
+unfolding setting_with
+few-here code site next s op built other_op all = operation-few (setting_with code) End site next s op built other_op all
 
 -- so has the state that the progress and the run are
 pub outcome-few : (n : ℕ) (outcome : MachineOutcome) (progress : Progress) (v : RunState) → IsOutcome outcome progress v → progress ≢ NoMemory → HasFew n outcome

@@ -6,6 +6,8 @@ pub mod BuiltCode
 pub mod Outcomes
 mod MoveLemmas
 mod ArgumentLemmas
+mod AccessLemmas
+mod IndexLemmas
 pub mod BlockPlaces
 pub mod CodeAt
 pub mod RunLaws

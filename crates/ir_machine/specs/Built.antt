@@ -1,6 +1,6 @@
--- The instructions that the machine runs today: those that take no memory of the program, with the widths that they can have; and
--- what the code of a run is. This project's choice.
-use Rattle.std.specs.Prelude.{◌≡◌, ◌<◌, ◌^◌, false, List, length, All}
+-- The instructions that the machine runs today: not those of frames with variables, of blocks and tasks, with the widths that they
+-- can have; and what the code of a run is. This project's choice.
+use Rattle.std.specs.Prelude.{◌≡◌, ◌≤◌, ◌<◌, ◌^◌, false, List, [], ◌∷◌, drop, length, All}
 use Rattle.hw_base.specs.ByteSwap.{HasPairs}
 use Rattle.hw_base.specs.declared.numbers.TheConstants.{MOST_FRAMES}
 use Rattle.ir_arith.specs.Conversion.{IsConversion}
@@ -9,9 +9,12 @@ use Rattle.ir_core.specs.declared.lib_functions.Lib.{Lib}
 use Rattle.ir_core.specs.declared.lib_functions.Lib.TheVariants as lib
 use Rattle.mi_code.specs.declared.code_functions.CodeFunction.{CodeFunction}
 use Rattle.mi_code.specs.declared.code_functions.Mi.{Mi}
+use Rattle.mi_code.specs.declared.operands.IndexStep.{IndexStep}
+use Rattle.mi_code.specs.declared.operands.IndexStep.TheVariants.{Scaled, Offset}
 use Rattle.mi_code.specs.declared.operations.MiOp.{MiOp}
+use Rattle.ir_tasks.specs.Frames.{Frame}
 use Rattle.mi_code.specs.declared.operations.MiOp.TheVariants as machine
-use Rattle.ir_machine.specs.CallSteps.{is_entry}
+use Rattle.ir_machine.specs.CallSteps.{code_at, is_entry}
 use Rattle.ir_machine.specs.Operands.{bits_in}
 use Rattle.ir_machine.specs.State.{MachineSetting}
 
@@ -23,7 +26,16 @@ IsBuiltFunction lib.Abort = Unit {0}
 IsBuiltFunction lib.LlvmTrap = Unit {0}
 IsBuiltFunction other = ⊥
 
+-- an index of an address has a width
+abbrev pub IsBuiltStep : IndexStep → Type 0
+IsBuiltStep (Scaled value width size) = IsWidth width
+IsBuiltStep (Offset off) = Unit {0}
+
 abbrev pub IsBuiltOp : MiOp → Type 0
+IsBuiltOp (machine.One at size access) = 1 ≤ size
+IsBuiltOp (machine.Gep to base indices) = All IsBuiltStep indices
+IsBuiltOp (machine.Load width to at) = IsWidth (bits_in width)
+IsBuiltOp (machine.Store width value at) = IsWidth (bits_in width)
 IsBuiltOp (machine.Binary op width to a b) = IsWidth width
 IsBuiltOp (machine.Icmp pred width to a b) = IsWidth (bits_in width)
 IsBuiltOp (machine.Cast op from width to a) = IsWidth from × IsWidth width × IsConversion op from width
@@ -41,6 +53,11 @@ IsBuiltOp (machine.CallLib function to args start) = IsBuiltFunction function
 IsBuiltOp (machine.Ret value) = Unit {0}
 IsBuiltOp machine.Unreachable = Unit {0}
 IsBuiltOp other = ⊥
+
+-- an instruction that is no check of one granule, after which a step goes on
+abbrev pub IsNoCheck : MiOp → Type 0
+IsNoCheck (machine.One at size access) = ⊥
+IsNoCheck op = Unit {0}
 
 -- an instruction that the machine runs, and that is no entry
 pub record IsBuilt (mi : Mi) : Type 0 where
@@ -66,4 +83,20 @@ IsPlainOp (machine.Select to cond a b) = Unit {0}
 IsPlainOp (machine.Freeze to a) = Unit {0}
 IsPlainOp (machine.Part to pair part) = Unit {0}
 IsPlainOp machine.Nop = Unit {0}
+IsPlainOp (machine.Gep to base indices) = Unit {0}
+IsPlainOp (machine.Load width to at) = Unit {0}
+IsPlainOp (machine.Store width value at) = Unit {0}
 IsPlainOp other = ⊥
+
+-- such an instruction follows, after checks alone
+abbrev pub IsPlainAfter : MiOp → Type 0 → Type 0
+IsPlainAfter (machine.One at size access) rest = rest
+IsPlainAfter op rest = IsPlainOp op
+
+abbrev pub IsPlainFrom : List Mi → Type 0
+IsPlainFrom [] = ⊥
+IsPlainFrom (mi ∷ insts) = IsPlainAfter mi.op (IsPlainFrom insts)
+
+-- such an instruction is where a frame is
+abbrev pub IsPlainAt : List CodeFunction → Frame → Type 0
+IsPlainAt code frame = IsPlainFrom (drop frame.place (code_at code frame.func).insts)

@@ -10,6 +10,7 @@ use Rattle.ir_machine.specs.Built.{IsBuiltCode}
 use Rattle.ir_machine.specs.RunStates.{RunState}
 use Rattle.ir_machine.specs.Start.{machine_start}
 use Rattle.hw_base.specs.AddressMap.{program_map}
+use Rattle.hw_tags.specs.Word.{word}
 use Rattle.hw_tags.specs.declared.options.Options.{Options}
 use Rattle.ir_core.specs.declared.ir_module.Module.{Module}
 use Rattle.ir_machine.specs.State.{MachineSetting, MachineWorld, MachineWorldStep, MachineEnding, Exited, Trapped, Reported, IsFull}
@@ -57,12 +58,13 @@ IsStep (Last w printed ending) (Ok found) m = (w.shared ≡ m.run.seen.shared) �
 IsStep NoStep result m = Unit {0}
 IsStep step (Err error) m = m.lost ≡ true
 
--- a setting of a module without globals, its code, and options
+-- a setting of a module, its code, and options
 pub record IsSettingOf (setting : MachineSetting) (program : Module) (functions : List CodeFunction) (options : Options) : Type 0 where
   pub program_is : setting.program ≡ program
   pub code_is : setting.code ≡ functions
   pub places_are : setting.places ≡ program_map options.heap
   pub ring_is : setting.ring ≡ options.ring
+  pub word_is : setting.word 0 ≡ word options.tags 0
 
 -- the machine before the first step of a run
 pub record IsStarted (program : Module) (functions : List CodeFunction) (options : Options) (m : MachineState) : Type 0 where

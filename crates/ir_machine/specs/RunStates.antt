@@ -7,15 +7,23 @@ use Rattle.hw_tags.specs.TaskRuns.{Goes, Ends}
 use Rattle.stack_tags.specs.Frames as stacks
 use Rattle.tag_alloc.specs.HeapBlocks as blocks
 use Rattle.global_tags.specs.GlobalBytes.{loaded}
+use Rattle.global_tags.specs.GlobalPlaces.{descriptors_of}
+use Rattle.global_tags.specs.declared.descriptor.Descriptor.{Descriptor}
+use Rattle.tbi_memory.specs.AddressSpace.{AddressSpace}
+use Rattle.hw_tags.specs.Word.{word}
+use Rattle.hw_tags.specs.declared.options.Options.{Options}
+use Rattle.ir_core.specs.declared.ir_module.Module.{Module}
 use Rattle.dbg_sites.specs.ChainTable.{ChainEntry}
 use Rattle.mi_code.specs.declared.edges.Move.{Move}
 use Rattle.ir_tasks.specs.Frames.{Frame}
 use Rattle.ir_tasks.specs.CallStacks.{Calls}
 use Rattle.ir_machine.specs.declared.progress.Ending.{Ending}
-use Rattle.ir_machine.specs.declared.progress.Ending.TheVariants.{Exit, Trap}
+use Rattle.ir_machine.specs.declared.progress.Ending.TheVariants.{Exit, Trap, Report}
 use Rattle.ir_machine.specs.declared.progress.Progress.{Progress}
 use Rattle.ir_machine.specs.declared.progress.Progress.TheVariants.{Ran, Printed, Returned, Ended, NoMemory}
-use Rattle.ir_machine.specs.State.{MachineShared, MachineSeen, MachineOutcome, MachineEnding, Exited, Trapped}
+use Rattle.ir_machine.specs.Start.{global_births}
+use Rattle.ir_machine.specs.State.{MachineShared, MachineSeen, MachineOutcome, MachineEnding, Exited, Trapped, Reported}
+use Rattle.ir_machine.specs.StepEnds.{advanced}
 
 pub record RunState : Type 0 where
   pub seen : MachineSeen
@@ -26,21 +34,29 @@ pub record RunState : Type 0 where
 abbrev pub ending_of : Ending → MachineEnding
 ending_of (Exit value) = Exited value
 ending_of (Trap trap task chain) = Trapped trap task chain
+ending_of (Report raw) = Reported raw
 
--- what all tasks share while no global, variable or block was made: memory as at the start, for a heap of so many bytes, and
--- these chains
-abbrev pub untouched : (heap ring : ℕ) → List ChainEntry → MachineShared
-untouched heap ring chains =
+-- what all tasks share while there is no frame with variables and no block: memory and the globals in it, so many births and
+-- words drawn, and these chains, for a heap of so many bytes
+abbrev pub shared_of : AddressSpace → List Descriptor → (births heap ring : ℕ) → List ChainEntry → MachineShared
+shared_of memory globals births heap ring chains =
     record {
-      memory = loaded (program_map heap) [] [] 0;
-      globals = [];
+      memory = memory;
+      globals = globals;
       heap = blocks.with_task (blocks.heap_at_start (program_map heap) ring);
       stacks = stacks.with_task (stacks.stacks_at_start (program_map heap) ring);
       chains = chains;
-      births = 0;
-      drawn = 0;
+      births = births;
+      drawn = births;
       input = no_input_taken;
     }
+
+-- what they share before the first step of a module under options
+abbrev pub loaded_module : Module → Options → MachineShared
+loaded_module m options =
+    shared_of (loaded (program_map options.heap) m.layouts m.globals (word options.tags 0))
+    (descriptors_of (program_map options.heap) m.layouts m.globals (word options.tags 0)) (global_births m.globals) options.heap
+    options.ring []
 
 -- what a step of the only task sees
 abbrev pub only_task : MachineShared → Calls → (step : ℕ) → MachineSeen
@@ -83,10 +99,14 @@ moves_with (move ∷ moves) [] = []
 moves_with (move ∷ moves) (n ∷ numbers) = (move.to, n) ∷ moves_with moves numbers
 
 -- the state before the first step
-abbrev pub first_state : (heap ring : ℕ) → Frame → RunState
-first_state heap ring frame =
+abbrev pub first_state : MachineShared → Frame → RunState
+first_state shared frame =
     record {
-      seen = only_task (untouched heap ring []) (record { frame = frame; callers = [] }) 0;
+      seen = only_task shared (record { frame = frame; callers = [] }) 0;
       printed = [];
       ending = Exited 0;
     }
+
+-- a check that passed: the state is the same, at the next place
+abbrev pub passed : RunState → RunState
+passed v = record v { seen = advanced v.seen }

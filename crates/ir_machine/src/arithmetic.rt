@@ -11,7 +11,7 @@ use hw_base::{BinOp, BitOp, CastOp, OverOp, Pred, Site};
 use mi_code::{MiOperand, MiOperandList, Width};
 
 /// The bits of a number, 64 for a pointer.
-fn bits_in(width: Width) -> u32
+pub fn bits_in(width: Width) -> u32
     ensures { result ≡ bits_in width }
 {
     match width {

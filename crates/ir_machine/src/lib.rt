@@ -1,7 +1,11 @@
 //! The machine that runs instrumented code: memory with tags, blocks, frames, globals and tasks, a step of one task by each
-//! machine instruction, and whole runs by turn words. It is a definition, with its laws and examples.
+//! machine instruction, and whole runs by turn words, as definitions with their laws and examples; and `Machine`, which runs code
+//! step by step. The layer above relies on it that `Machine::step` is the definition's step. Of the instructions it runs those
+//! of `specs/Built.antt`.
 #![tactic(auto)]
 
+mod accesses;
+mod addresses;
 mod arithmetic;
 mod branches;
 mod calls;

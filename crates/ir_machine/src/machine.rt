@@ -16,7 +16,8 @@ use mi_code::Code;
 use std::alloc::Global;
 use std::marker::Model;
 
-/// A run of instrumented code, step by step. The instructions that it runs are those that take no memory of the program.
+/// A run of instrumented code, step by step. The instructions that it runs are not yet those of frames with variables, of blocks and
+/// of tasks.
 #[derive(Drop)]
 pub struct Machine {
     code: Code,
@@ -44,33 +45,33 @@ fn ended(ending: Ending) -> Stepped
     match ending {
         Ending::Exit(value) => Stepped::Exit(value.cast_signed()),
         Ending::Trap { trap, task, chain } => Stepped::Trap { trap, task, chain },
+        Ending::Report(raw) => Stepped::Mismatch(raw),
     }
 }
 
 impl Machine {
     ghost use Rattle.hw_tags.specs.TaskRuns.{world_step, Next};
-    ghost use Rattle.mi_code.specs.declared.code_functions.Mi.{Mi};
-    ghost use Rattle.ir_machine.specs.CallSteps.{instruction_at};
+    ghost use Rattle.global_tags.specs.Loading.{CanBeLoaded};
     ghost use Rattle.ir_machine.specs.State.{MachineSetting, MachineWorld};
-    ghost use Rattle.ir_machine.specs.Built.{IsBuiltCode, IsPlainOp, HasCode};
+    ghost use Rattle.ir_machine.specs.Built.{IsBuiltCode, IsPlainAt, HasCode};
     ghost use Rattle.ir_machine.specs.Runs.{step_in};
     ghost use Rattle.ir_machine.specs.MachineStates.{IsStep, IsStarted, world_of};
 
-    /// The machine before the first step: `main` is entered. The module has no globals, the code is that of its functions and
-    /// has only instructions that the machine runs, and `main` is one of them. The only error is that memory ran out.
+    /// The machine before the first step: the module's globals are in memory, and `main` is entered. The code is that of its
+    /// functions and has only instructions that the machine runs, and `main` is one of them. The only error is that memory ran out.
     pub fn new(
         alloc: Global,
-        module: &Module,
+        program: &Module,
         code: Code,
         options: &Options,
     ) -> Result<Machine, OutOfMemory>
         requires built { IsBuiltCode code }
-        requires no_globals { module.now.globals ≡ [] }
-        requires main { module.now.main < length code }
-        ensures { IfOk result (λ m. IsStarted module.now code options.now m) }
+        requires globals { CanBeLoaded program.now }
+        requires main { program.now.main < length code }
+        ensures { IfOk result (λ m. IsStarted program.now code options.now m) }
     {
-        let registers = registers_of(&code, module.main);
-        let run = Run::new(alloc, module.main, registers, options.heap, options.ring)?;
+        let registers = registers_of(&code, program.main);
+        let run = Run::new(alloc, program, program.main, registers, options)?;
         Ok(Machine {
             code,
             run,
@@ -102,15 +103,15 @@ impl Machine {
     }
 
     /// One step of the run: one source instruction of the task, with what the definition's step does, prints and how it ends.
-    /// No instruction that is run here reads input. The error is that memory ran out; each later step returns it too. An
-    /// instruction that only reads and writes registers takes no memory.
+    /// No instruction that is run here reads input. The error is that memory ran out; each later step returns it too. A
+    /// step of an instruction that only reads and writes registers and the program's memory takes no memory if the run goes on.
     #[inline(always)]
     pub fn step(&mut self) -> Result<Stepped, OutOfMemory>
         requires { self.old.steps < MOST_STEPS }
         ensures step { (setting : MachineSetting) (turns : ℕ → ℕ) → HasCode setting self.old.code → self.old.lost ≡ false
             → IsStep (world_step (step_in setting) [] turns (world_of self.old)) result self.new }
-        ensures plain { (setting : MachineSetting) (turns : ℕ → ℕ) (mi : Mi) (w : MachineWorld) (printed : List ℕ) → HasCode setting self.old.code
-            → self.old.lost ≡ false → instruction_at self.old.code self.old.run.seen.frame ≡ Some mi → IsPlainOp mi.op
+        ensures plain { (setting : MachineSetting) (turns : ℕ → ℕ) (w : MachineWorld) (printed : List ℕ) → HasCode setting self.old.code
+            → self.old.lost ≡ false → IsPlainAt self.old.code self.old.run.seen.frame
             → world_step (step_in setting) [] turns (world_of self.old) ≡ Next w printed → IsOk result }
         ensures lost { self.old.lost ≡ true → IsErr result }
         ensures count { self.old.lost ≡ false → self.new.steps ≡ self.old.steps + 1 }

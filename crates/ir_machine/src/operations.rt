@@ -1,6 +1,6 @@
 ghost use Rattle.std.specs.Prelude.{◌≡◌, ℕ, ◌+◌, ◌-◌, ◌^◌, ◌<◌, length, Option};
 ghost use Rattle.hw_base.specs.declared.endings.Input.{Input};
-ghost use Rattle.ir_machine.specs.Built.{IsBuiltOp, IsBuiltFunction, IsBuiltCode, IsPlainOp, HasCode};
+ghost use Rattle.ir_machine.specs.Built.{IsBuiltOp, IsBuiltFunction, IsNoCheck, IsBuiltCode, IsPlainOp, HasCode};
 ghost use Rattle.ir_machine.specs.CallSteps.{code_at};
 ghost use Rattle.ir_machine.specs.InstructionStep.{operation_step};
 ghost use Rattle.ir_machine.specs.LibraryCalls.{library_step};
@@ -37,7 +37,7 @@ fn library(
     }
 }
 
-/// The step of an instruction at a site.
+/// The step of an instruction at a site, which is no check.
 #[tactic(auto, using(crate::proofs::Outcomes::from_plain))]
 pub fn operation(
     code: &Code,
@@ -47,6 +47,7 @@ pub fn operation(
     op: &MiOp,
 ) -> Progress
     requires built { IsBuiltOp op.now }
+    requires no_check { IsNoCheck op.now }
     requires all { IsBuiltCode code.now }
     requires task { run.old.seen.task ≡ 0 }
     requires place { run.old.seen.frame.place + 1 < 2 ^ 64 }
@@ -93,6 +94,9 @@ pub fn operation(
         } => run.overflow(*op, *width, *to, a, b),
         MiOp::Select { to, cond, a, b } => run.select(*to, cond, a, b),
         MiOp::Freeze { to, a } => run.freeze(*to, a),
+        MiOp::Gep { to, base, indices } => run.gep(*to, base, indices),
+        MiOp::Load { width, to, at } => run.load(site, *width, *to, at),
+        MiOp::Store { width, value, at } => run.store(site, *width, value, at),
         MiOp::Part { to, of, part } => run.extract(*to, of, *part),
         MiOp::Nop => run.go_on(),
         MiOp::Jump { edge } => run.jump(edge, numbers),

@@ -1,3 +1,4 @@
+use crate::Raw;
 use hw_base::Trap;
 
 /// What came of a step, in a word: the task goes on; it goes on and printed bytes; the last frame of the first task
@@ -12,9 +13,11 @@ pub enum Progress {
     NoMemory,
 }
 
-/// How a run ended: the program exits with a 32-bit value, or it traps, in a task and with the number of a call chain.
+/// How a run ended: the program exits with a 32-bit value; it traps, in a task and with the number of a call chain; or a check
+/// failed.
 #[derive(Clone, Copy)]
 pub enum Ending {
     Exit(u32),
     Trap { trap: Trap, task: u32, chain: u32 },
+    Report(Raw),
 }

@@ -1,19 +1,28 @@
 ghost use Rattle.std.specs.Prelude.{◌≡◌, ℕ, ◌+◌, ◌-◌, ◌^◌, ◌<◌, ◌≤◌, length, slice_get, [], ◌∷◌, OnOk, IfOk, true, false, unwrap_or};
+ghost use Rattle.ir_machine.specs.Start.{global_births};
 
+use crate::found::{Found, Raw};
 use crate::progress::{Ending, Progress};
 use dbg_sites::Chains;
-use hw_base::{OutOfMemory, Site, Trap};
+use global_tags::{Descriptors, global_number, layout, load};
+use hw_base::{Access, OutOfMemory, Site, Trap};
+use hw_tags::{Options, Words};
 use ir_arith::wrap;
+use ir_core::Module;
 use ir_tasks::CallStack;
 use mi_code::MiOperand;
 use std::alloc::Global;
 use std::marker::Model;
+use tbi_memory::{MemFault, Memory, Mismatch};
 
-/// What a run has in hand: the frames of its task, the chains of sites, the number of the step, what the last step
-/// printed, and how the run ended if it has.
+/// What a run has in hand: the frames of its task, memory and where the globals lie in it, the chains of sites, the number of
+/// the step, what the last step printed, and how the run ended if it has. `births` is 1 if there are globals, and else 0.
 #[derive(Drop)]
 pub struct Run {
-    calls: CallStack,
+    pub(crate) calls: CallStack,
+    pub(crate) memory: Memory,
+    globals: Descriptors,
+    births: u32,
     chains: Chains,
     step: u64,
     heap: u64,
@@ -23,44 +32,58 @@ pub struct Run {
 }
 
 impl Model for Run {
-    ghost use Rattle.ir_machine.specs.RunStates.{RunState, only_task, untouched, ending_of};
+    ghost use Rattle.ir_machine.specs.RunStates.{RunState, only_task, shared_of, ending_of};
 
     ghost Value = { RunState };
 
     ghost view = { λ r. record {
-      seen = only_task (untouched r.heap r.ring r.chains) r.calls r.step;
+      seen = only_task (shared_of r.memory r.globals r.births r.heap r.ring r.chains) r.calls r.step;
       printed = r.printed.items;
       ending = ending_of r.ending;
     } };
 }
 
+/// The births before the first step: all globals are one, if there are any.
+fn first_births(program: &Module) -> u32
+    ensures { result ≡ global_births program.now.globals }
+{
+    if program.globals.is_empty() { 0 } else { 1 }
+}
+
 impl Run {
+    ghost use Rattle.global_tags.specs.Loading.{CanBeLoaded};
     ghost use Rattle.ir_machine.specs.State.{MachineSeen};
-    ghost use Rattle.ir_machine.specs.Operands.{number_in, integer_in, second_part};
+    ghost use Rattle.ir_machine.specs.Operands.{number_in, integer_in, pointer_in, second_part};
     ghost use Rattle.ir_tasks.specs.Frames.{at_place};
-    ghost use Rattle.ir_machine.specs.StepEnds.{gives, goes_on, traps, ends, prints, with_number, with_result, chain_known, chain_at};
+    ghost use Rattle.ir_machine.specs.StepEnds.{gives, goes_on, traps, ends, prints, with_number, with_result, chain_known, chain_at, report_at, refused_at};
     ghost use Rattle.ir_machine.specs.CallSteps.{last_left};
     ghost use Rattle.ir_tasks.specs.CallStacks.{fresh_frame};
-    ghost use Rattle.ir_machine.specs.RunStates.{IsOutcome, IsPlainOutcome, with_frame, ending_of, first_state};
+    ghost use Rattle.ir_machine.specs.RunStates.{IsOutcome, IsPlainOutcome, with_frame, ending_of, first_state, loaded_module};
 
-    /// A run that begins with a function, whose frame has so many registers, for a heap of so many bytes and rings of so many
-    /// records. No step was made.
+    /// A run of a module that begins with a function, whose frame has so many registers: its globals are in memory. No step was
+    /// made.
     pub fn new(
         alloc: Global,
+        program: &Module,
         func: u32,
         registers: u32,
-        heap: u64,
-        ring: u32,
+        options: &Options,
     ) -> Result<Run, OutOfMemory>
-        ensures { IfOk result (λ r. r ≡ first_state heap ring (fresh_frame func registers 0 0)) }
+        requires { CanBeLoaded program.now }
+        ensures { IfOk result (λ r. r ≡ first_state (loaded_module program.now options.now) (fresh_frame func registers 0 0)) }
     {
-        let calls = CallStack::new(alloc, func, registers, 0, 0)?;
+        let mut words = Words::new(alloc, &options.tags)?;
+        let mut memory = Memory::new(alloc, &layout(program, options.heap))?;
+        let globals = load(alloc, program, &mut memory, &mut words)?;
         Ok(Run {
-            calls,
+            calls: CallStack::new(alloc, func, registers, 0, 0)?,
+            memory,
+            globals,
+            births: first_births(program),
             chains: Chains::new(alloc),
             step: 0,
-            heap,
-            ring,
+            heap: options.heap,
+            ring: options.ring,
             printed: Vec::new(alloc),
             ending: Ending::Exit(0),
         })
@@ -73,8 +96,17 @@ impl Run {
         match *operand {
             MiOperand::Reg(r) => self.calls.register(r as usize),
             MiOperand::Num(n) => n,
-            MiOperand::Global { off, .. } => off as u128,
+            MiOperand::Global { global, off } => {
+                global_number(&self.globals, global, off) as u128
+            }
         }
+    }
+
+    /// The number that an operand is as a pointer.
+    pub fn pointer(&self, operand: &MiOperand) -> u64
+        ensures { result ≡ pointer_in self.now.seen operand.now }
+    {
+        (self.number(operand) % 0x1_0000_0000_0000_0000) as u64
     }
 
     /// The number that an operand is, in a width of 1 to 128 bits.
@@ -274,6 +306,58 @@ impl Run {
                 Progress::Ended
             }
             Err(_) => Progress::NoMemory,
+        }
+    }
+
+    /// The run ends with a report of an access of so many bytes at a number, and what its check found.
+    #[cold]
+    pub fn report(
+        &mut self,
+        site: Site,
+        access: Access,
+        size: u64,
+        number: u64,
+        found: Found,
+    ) -> Progress
+        requires { length self.old.seen.shared.chains < 2 ^ 32 - 1 }
+        ensures { IsPlainOutcome (report_at self.old.seen site access size number found) result self.new }
+    {
+        match self.chains.push(self.calls.chain(), site) {
+            Ok(chain) => {
+                self.ending = Ending::Report(Raw {
+                    access,
+                    size,
+                    number,
+                    task: 0,
+                    step: self.step,
+                    chain,
+                    found,
+                });
+                Progress::Ended
+            }
+            Err(_) => Progress::NoMemory,
+        }
+    }
+
+    /// The run ends since memory refuses an access: an address that isn't mapped is reported, and a write to a constant traps.
+    #[cold]
+    pub fn refused(
+        &mut self,
+        site: Site,
+        access: Access,
+        size: u64,
+        number: u64,
+        fault: MemFault,
+    ) -> Progress
+        requires { length self.old.seen.shared.chains < 2 ^ 32 - 1 }
+        ensures { IsPlainOutcome (refused_at self.old.seen site access size number fault) result self.new }
+    {
+        match fault {
+            MemFault::Unmapped(address) => {
+                let found = Found::Memory(Mismatch::Unmapped(address));
+                self.report(site, access, size, number, found)
+            }
+            MemFault::ReadOnly => self.trap(site, Trap::ReadOnly),
         }
     }
 }

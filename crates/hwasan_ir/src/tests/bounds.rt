@@ -1,4 +1,4 @@
-//! Texts of one global under a bound on the steps. Each instruction is a step; a store is one, a load with its print three.
+//! Runs under a bound on the steps. Each instruction is a step.
 use super::{NO_FAULT, OVERFLOW_AT_STEP_5, expect, print_and_overflow, store_and_print};
 use std::process::Abort;
 use std::test::Fail;
@@ -31,10 +31,9 @@ fn a_run_stops_with_what_was_printed_by_then(rt: HostRuntime) -> Result<(), Fail
     Ok(())
 }
 
-/// The load of step 5 leads past the global. It is checked where its step is within the bound, though the two steps after it
-/// aren't.
+/// The load of step 5 leads past the global.
 #[test]
-fn a_load_is_checked_if_its_first_step_is_within_the_bound(rt: HostRuntime) -> Result<(), Fail> {
+fn a_load_is_checked_if_its_step_is_within_the_bound(rt: HostRuntime) -> Result<(), Fail> {
     let text = print_and_overflow(rt.alloc())?;
     let runs: [(&str, u8, &[u8], &[u8]); 4] = [
         ("4", 9, b"A", b"spent: step 4\n"),

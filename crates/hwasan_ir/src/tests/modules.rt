@@ -228,25 +228,24 @@ fn what_was_printed_by_then_is_shown(rt: HostRuntime) -> Result<(), Fail> {
 /// Modules with a part that the machine doesn't run, and the line that names its place.
 const UNBUILT: [(&str, &str); 6] = [
     (
-        "@a = global [16 x i8] zeroinitializer\n@b = global [3 x i8] zeroinitializer
-define i32 @main() {\n%q = getelementptr i8, ptr @a, i64 16\nstore i8 7, ptr %q\nret i32 0\n}\n",
-        "refused: 3 Unsupported at 1:1\n",
-    ),
-    (
         "define i32 @main() { %a = alloca [262144 x i8] ret i32 0 }",
         "refused: 3 Unsupported at 1:22\n",
     ),
     (
-        "define i32 @main() {\n  %x = add i32 1, 2\n  %y = load i8, ptr null\n  ret i32 0\n}\n",
+        "@x = global i32 1\ndefine i32 @main() {\n  %a = load i32, ptr @x\n  %b = load i32, ptr @x, align 2\n  ret i32 0\n}\n",
+        "refused: 3 Unsupported at 4:3\n",
+    ),
+    (
+        "@x = global i32 1\ndefine i32 @main() {\n  %y = atomicrmw add ptr @x, i32 1 seq_cst\n  ret i32 0\n}\n",
         "refused: 3 Unsupported at 3:3\n",
     ),
     (
-        "define i32 @main() {\n  ret i32 0\n}\n\ndefine ptr @f() {\n  ret ptr null\n}\n",
-        "refused: 3 Unsupported at 5:12\n",
+        "declare ptr @malloc(i64)\ndefine ptr @f() {\n  %p = call ptr @malloc(i64 8)\n  ret ptr %p\n}\ndefine i32 @main() {\n  ret i32 0\n}\n",
+        "refused: 3 Unsupported at 3:3\n",
     ),
     (
-        "define void @f(ptr %p) {\n  ret void\n}\ndefine i32 @main() {\n  ret i32 0\n}\n",
-        "refused: 3 Unsupported at 1:13\n",
+        "define i32 @main() {\n  %y = load i128, ptr null, align 8\n  ret i32 0\n}\n",
+        "refused: 3 Unsupported at 2:3\n",
     ),
     (
         "declare i32 @getchar()\ndefine i32 @main() {\n  %c = call i32 @getchar()\n  ret i32 %c\n}\n",

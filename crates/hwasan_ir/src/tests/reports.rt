@@ -159,20 +159,3 @@ fn the_tag_word_decides_the_tag(rt: HostRuntime) -> Result<(), Fail> {
     }
     Ok(())
 }
-
-/// The first output of PCG32 (XSH RR 64/32) of state 1 on stream 1 is c9828f91, worked out by a program of its own, so the
-/// word is 145.
-#[test]
-fn without_a_tag_word_it_is_the_first_of_seed_1(rt: HostRuntime) -> Result<(), Fail> {
-    let alloc = rt.alloc();
-    let text = program(alloc, 16, &[load(alloc, 0, 16)?])?;
-    let report =
-        b"hwasan: read of 1 at a100000000010010 in task 0, step 1\n  at main ?\nunmapped: 0000000000010010\n";
-    expect(
-        &rt,
-        &["run", "t.ll"],
-        text.as_bytes(),
-        &NO_FAULT,
-        (1, b"", report),
-    )
-}

@@ -1,5 +1,6 @@
-use Rattle.std.proofs.Common.{ℕ, List, sym, ◌∙◌, ap, subst}
+use Rattle.std.proofs.Common.{ℕ, List, sym, subst}
 use Rattle.ir_core.specs.declared.ir_module.Module.{Module}
+use Rattle.global_tags.specs.Loading.{CanBeLoaded}
 use Rattle.ir_machine.specs.Built.{IsBuiltCode}
 use Rattle.ir_machine.specs.Runs.{run_of}
 use Rattle.hw_run.specs.RunEnds.{IsGathered}
@@ -13,10 +14,10 @@ run_gathered-requires-clause-built c =
     let can : CanBeRun c.args.checked.now = built-can-be-run c.args.checked.now c.module.ensures.checked c.requires.declares c.requires.built in
     subst IsBuiltCode (sym c.in_ok-code.ensures) can.code
 
-pub run_gathered-requires-clause-no_globals : goal.run_gathered-requires-clause-no_globals
-run_gathered-requires-clause-no_globals c =
+pub run_gathered-requires-clause-globals : goal.run_gathered-requires-clause-globals
+run_gathered-requires-clause-globals c =
     let can : CanBeRun c.args.checked.now = built-can-be-run c.args.checked.now c.module.ensures.checked c.requires.declares c.requires.built in
-    ap (λ (m : Module). m.globals) c.module.ensures.value ∙ can.no_globals
+    subst CanBeLoaded (sym c.module.ensures.value) can.globals
 
 pub returns : goal.returns
 returns c = record {

@@ -1,10 +1,8 @@
-use Rattle.std.proofs.Common.{arith}
-use Rattle.hw_driver.specs.Answer.{read_of, bound_under, tag_under}
+use Rattle.hw_driver.specs.Answer.{read_of}
 use Rattle.hw_driver.proofs.Causes.{Answers-cause, Answers-rises}
 use Rattle.hw_driver.proofs.ClosingBytes.{Answers-closes}
 use Rattle.hw_driver.proofs.Exactness.{Answers-exact, judged-module}
 use Rattle.hw_driver.proofs.FileReads.{Answers-reads}
-use Rattle.hw_driver.proofs.Detected.{Shows-detects, spelled_program}
 use Rattle.hw_driver.proofs.top.hwasan.Goals as goal
 
 pub returns-clause-reads : goal.returns-clause-reads
@@ -23,10 +21,5 @@ pub returns-clause-closing : goal.returns-clause-closing
 returns-clause-closing g c = Answers-closes _ _ _ _ _ c.answer.ensures.answers
 
 pub returns-clause-detects : goal.returns-clause-detects
-returns-clause-detects g c = λ l bytes p some told spelled quiet.
-    Shows-detects (bound_under l) (tag_under l) p _ _ _ (spelled_program (read_of bytes) p spelled) (omega arith) (omega arith)
-    ((Answers-exact _ _ _ _ _ c.answer.ensures.answers quiet).one_global l bytes p some told spelled)
-
-pub returns-clause-detects_in_modules : goal.returns-clause-detects_in_modules
-returns-clause-detects_in_modules g c = λ l bytes some told other quiet.
-    judged-module l (read_of bytes) _ _ _ other ((Answers-exact _ _ _ _ _ c.answer.ensures.answers quiet).judged l bytes some told)
+returns-clause-detects g c = λ l bytes some told quiet.
+    judged-module l (read_of bytes) _ _ _ ((Answers-exact _ _ _ _ _ c.answer.ensures.answers quiet).judged l bytes some told)

@@ -1,13 +1,12 @@
-use Rattle.std.proofs.Common.{◌≡◌, ◌+◌, [], sym, refl, ap, ◌∙◌, subst, Ok, Some}
+use Rattle.std.proofs.Common.{◌+◌, [], sym, refl, ap, ◌∙◌, subst, Ok}
 use Rattle.hw_tags.specs.TaskRuns.{world_step}
 use Rattle.ir_machine.specs.declared.progress.Progress.TheVariants.{Ran, Printed, Returned, Ended}
 use Rattle.ir_machine.specs.declared.stepped.Stepped.TheVariants as stepped
-use Rattle.ir_machine.specs.Built.{HasCode}
+use Rattle.ir_machine.specs.Built.{HasCode, IsPlainAt}
 use Rattle.hw_tags.specs.InputState.{next_input}
 use Rattle.ir_machine.specs.Runs.{step_in}
 use Rattle.ir_machine.specs.MachineStates.{MachineState, IsEnd, IsStep, world_of}
 use Rattle.ir_machine.specs.State.{MachineEnding, MachineSeen}
-use Rattle.ir_machine.specs.CallSteps.{instruction_at}
 use Rattle.ir_machine.specs.RunStates.{RunState}
 use Rattle.ir_tasks.specs.Frames.{Frame}
 use Rattle.ir_machine.proofs.OneTask.{IsAnswer, machine-stepped, one-task, ended-no-next}
@@ -58,15 +57,15 @@ returns-in-Ended-clause-step c setting turns has here =
     (λ goes. c.in-Ended.ensures.step setting (next_input setting.input c.begin_step.new.self.seen.shared.input) code goes) (subst (λ (e : MachineEnding). IsEnd e c.ended-in-Ended.result) c.ending-in-Ended.ensures c.ended-in-Ended.ensures) refl)
 
 pub returns-in-NoMemory-clause-plain : goal.returns-in-NoMemory-clause-plain
-returns-in-NoMemory-clause-plain c setting turns mi w printed has here there plain next =
+returns-in-NoMemory-clause-plain c setting turns w printed has here plain next =
     let before : MachineState = record { code = c.self.inside.code; run = c.self.inside.run; steps = c.self.inside.steps; lost = c.self.inside.lost } in
     let begun = c.begin_step.new.self in
     let code : HasCode setting before.code = subst (λ (m : MachineState). HasCode setting m.code) (sym c.self.view_is) has in
     let seen = ap (λ (v : RunState). v.seen) c.begin_step.ensures.begun in
     let same_frame = ap (λ (s : MachineSeen). s.frame) seen in
-    let at : instruction_at before.code begun.seen.frame ≡ Some mi =
-    ap (λ (f : Frame). instruction_at before.code f) same_frame ∙ (ap (λ (m : MachineState). instruction_at m.code m.run.seen.frame) c.self.view_is ∙ there) in
+    let at : IsPlainAt before.code begun.seen.frame =
+    subst (λ (f : Frame). IsPlainAt before.code f) (sym same_frame) (subst (λ (m : MachineState). IsPlainAt m.code m.run.seen.frame) (sym c.self.view_is) plain) in
     let step = one-task (step_in setting) turns before begun.seen c.begin_step.ensures.task c.begin_step.ensures.finished seen in
     let went = ap (λ (m : MachineState). world_step (step_in setting) [] turns (world_of m)) c.self.view_is in
-    let ends = c.in-NoMemory.ensures.plain setting (next_input setting.input begun.seen.shared.input) code mi at plain in
+    let ends = c.in-NoMemory.ensures.plain setting (next_input setting.input begun.seen.shared.input) code at in
     absurd (ended-no-next (record (world_of before) { steps = before.steps + 1 }) w printed (step_in setting begun.seen) ends (sym step ∙ (went ∙ next)))
