@@ -4,6 +4,8 @@ use Rattle.std.specs.Io.KnownBytes.{Appends}
 use Rattle.hw_base.specs.declared.numbers.TheConstants.{MOST_TEXT}
 use Rattle.hw_base.specs.declared.endings.Status.{Status}
 use Rattle.hw_base.specs.declared.endings.Status.TheVariants.{BadWords, Refused, FileFault, WriteFault, Memory}
+use Rattle.hw_ports.specs.declared.ports.FileText.{FileText}
+use Rattle.hw_ports.specs.declared.ports.FileText.TheVariants as file_text
 use Rattle.hw_ports.specs.Causes.{Rose}
 use Rattle.hw_ports.specs.Content.{Content, Unobservable, Absent, Bytes}
 use Rattle.hw_tags.specs.Word.{word}
@@ -35,6 +37,11 @@ pub record Decision : Type 0 where
 pub data FileRead : Type 0 where
   Whole : List ℕ → FileRead
   TooLong : FileRead
+
+-- a text that was read, by what the read returned
+abbrev pub seen : FileText → List ℕ → FileRead
+seen file_text.Whole text = Whole text
+seen file_text.Longer text = TooLong
 
 -- how a file of these bytes is read
 abbrev pub read_of : List ℕ → FileRead

@@ -5,7 +5,7 @@ ghost use Rattle.hw_ports.specs.Content.{AddsRead, failed_after};
 ghost use Rattle.hw_driver.specs.Line.{line};
 ghost use Rattle.hw_driver.specs.LineView.{texts, line_view};
 ghost use Rattle.hw_driver.specs.Decided.{decision_view};
-ghost use Rattle.hw_driver.specs.Answer.{Decides, files_change, JudgesFile, JudgesText, Whole, too_long, IsRunOf, JudgesModule, refused_decision};
+ghost use Rattle.hw_driver.specs.Answer.{Decides, files_change, JudgesFile, JudgesText, Whole, seen, too_long, IsRunOf, JudgesModule, refused_decision};
 
 use crate::command::Command;
 use crate::decision::{Decision, Text};
@@ -102,8 +102,23 @@ fn judge_text(alloc: Global, command: &Command<'_>, text: &[u8]) -> Result<Decis
     }
 }
 
-// What a command and its file come to.
+// What a command and a file that was read come to.
 #[tactic(auto, using(crate::proofs::Judged::judged_too_long))]
+fn judge_read(
+    alloc: Global,
+    command: &Command<'_>,
+    read: FileText,
+    text: &[u8],
+) -> Result<Decision, OutOfMemory>
+    ensures { IfOk result (λ d. JudgesText (line_view command.now) (seen read text.now) (decision_view d)) }
+{
+    match read {
+        FileText::Whole => judge_text(alloc, command, text),
+        FileText::Longer => too_long(alloc),
+    }
+}
+
+// What a command and its file come to.
 fn judge_file<F: Files>(
     alloc: Global,
     command: &Command<'_>,
@@ -114,12 +129,11 @@ fn judge_file<F: Files>(
     ensures failed { F.failed files.new ≡ failed_after result (F.failed files.old) command.now.file.now }
 {
     let mut text = Vec::new(alloc);
-    let judged = match files.read(alloc, command.file, MOST_TEXT, &mut text) {
-        Ok(FileText::Whole) => judge_text(alloc, command, &text),
-        Ok(FileText::Longer) => too_long(alloc),
+    let read = match files.read(alloc, command.file, MOST_TEXT, &mut text) {
+        Ok(read) => read,
         Err(error) => return Err(error),
     };
-    match judged {
+    match judge_read(alloc, command, read, &text) {
         Ok(decision) => Ok(decision),
         Err(_) => Err(FileError::OutOfMemory),
     }
