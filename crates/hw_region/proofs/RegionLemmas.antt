@@ -44,3 +44,21 @@ after_written bytes others at place count inside after =
     let both : length (take at bytes ++ others) ≡ length (take at bytes) + length others = length-append (take at bytes) others in
     ap (λ (ys : List ℕ). take count ys)
     (drop-append-drop (at + length others) bytes (take at bytes ++ others) place after (omega (arith, front, both)))
+
+-- bytes that are written after others
+pub written_append : (bytes first second : List ℕ) (at next : ℕ) → at + length first ≤ length bytes → next ≡ at + length first
+    → with_bytes_at (with_bytes_at bytes at first) next second ≡ with_bytes_at bytes at (first ++ second)
+written_append bytes first second at next inside e =
+    let front : length (take at bytes) ≡ at = length-take-le at bytes (omega (arith, inside)) in
+    let both : length (take at bytes ++ first) ≡ length (take at bytes) + length first = length-append (take at bytes) first in
+    let seam : next ≡ length (take at bytes ++ first) = omega (arith, front, both, e) in
+    let count : length (first ++ second) ≡ length first + length second = length-append first second in
+    let last : next + length second ≡ at + length (first ++ second) = omega (arith, count, e) in
+    let before : take next (with_bytes_at bytes at first) ≡ take at bytes ++ first =
+    ap (λ (k : ℕ). take k (with_bytes_at bytes at first)) seam ∙ take-append_seam (take at bytes ++ first) (drop (at + length first) bytes) in
+    let after : drop (next + length second) (with_bytes_at bytes at first) ≡ drop (next + length second) bytes =
+    drop-append-drop (at + length first) bytes (take at bytes ++ first) (next + length second) (omega (arith, e)) (omega (arith, front, both)) in
+    ap (λ (ys : List ℕ). ys ++ second ++ drop (next + length second) (with_bytes_at bytes at first)) before
+    ∙ ap (λ (ys : List ℕ). take at bytes ++ first ++ second ++ ys) after
+    ∙ ap (λ (k : ℕ). take at bytes ++ first ++ second ++ drop k bytes) last
+    ∙ ap (λ (ys : List ℕ). ys ++ drop (at + length (first ++ second)) bytes) (append_assoc (take at bytes) first second)

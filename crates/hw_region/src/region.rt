@@ -1,6 +1,6 @@
 ghost use Rattle.hw_base.specs.Bytes.{le_bytes, le_number};
 ghost use Rattle.hw_region.specs.RegionBytes.{bytes_from, with_bytes_at, zeros_after};
-ghost use Rattle.std.specs.Prelude.{◌≡◌, ℕ, ◌+◌, ◌-◌, ◌*◌, ◌^◌, ◌<◌, ◌≤◌, List, length, drop, replicate, slice_get, vec_capacity, IfOk, Some};
+ghost use Rattle.std.specs.Prelude.{◌≡◌, ℕ, ◌+◌, ◌-◌, ◌*◌, ◌^◌, ◌<◌, ◌≤◌, List, ◌++◌, length, drop, replicate, slice_get, vec_capacity, IfOk, Some};
 
 use hw_base::OutOfMemory;
 use std::alloc::Global;
@@ -116,6 +116,49 @@ impl Region {
         self.bytes
             .as_mut_slice()
             .copy_within(start..start + len as usize, to as usize);
+    }
+
+    /// Copies the `len` bytes of another region from `from` on to `to`. Zeros that are copied past the kept bytes aren't kept.
+    pub fn copy_from(&mut self, other: &Region, from: u64, to: u64, len: u64)
+        requires from_inside { from + len ≤ length other.now }
+        requires to_inside { to + len ≤ length self.old }
+        ensures bytes { self.new ≡ with_bytes_at self.old to (bytes_from other.now from len) }
+        ensures length { length self.new ≡ length self.old }
+    {
+        let run = other.kept_run(from, len);
+        let zeros = len - run.len() as u64;
+        let end = self.put_run(to, run);
+        self.fill(end, zeros, 0);
+    }
+
+    /// The kept ones of the `len` bytes from `from` on. All bytes after them are zero.
+    fn kept_run(&self, from: u64, len: u64) -> &[u8]
+        requires inside { from + len ≤ length self.now }
+        ensures bytes { bytes_from self.now from len ≡ result.now ++ replicate (len - length result.now) 0 }
+        ensures count { length result.now ≤ len }
+    {
+        let kept = self.bytes.as_slice();
+        let start = kept.len().min(from as usize);
+        let end = kept.len().min(from as usize + len as usize);
+        &kept[start..end]
+    }
+
+    /// Writes a run of bytes from `to` on. It returns the place after them.
+    fn put_run(&mut self, to: u64, run: &[u8]) -> u64
+        requires inside { to + length run.now ≤ length self.old }
+        ensures bytes { self.new ≡ with_bytes_at self.old to run.now }
+        ensures length { length self.new ≡ length self.old }
+        ensures end { result ≡ to + length run.now }
+    {
+        if run.is_empty() {
+            return to;
+        }
+        let len = self.len as usize;
+        let start = to as usize;
+        let end = start + run.len();
+        reach(&mut self.bytes, end, len);
+        self.bytes.as_mut_slice()[start..end].copy_from_slice(run);
+        end as u64
     }
 }
 

@@ -1,5 +1,16 @@
+ghost use Rattle.std.specs.Prelude.{◌≡◌, length, IfOk};
+
 use super::*;
+use hw_base::OutOfMemory;
+use std::alloc::Global;
 use std::test::Fail;
+
+/// A region of which only the length is known.
+fn new_region(alloc: Global, len: u64) -> Result<Region, OutOfMemory>
+    ensures { IfOk result (λ region. length region ≡ len) }
+{
+    Region::new(alloc, len)
+}
 
 #[test]
 fn numbers_are_read_as_they_were_put(rt: HostRuntime) -> Result<(), Fail> {
@@ -81,5 +92,25 @@ fn zeros_are_filled(rt: HostRuntime) -> Result<(), Fail> {
     region.put(4_990, 4, 0x0707_0707);
     region.fill(4_992, 8, 0);
     assert_eq!(rt; region.get(4_988, 8), 0x0707_0000);
+    Ok(())
+}
+
+#[test]
+fn bytes_of_another_region_are_copied(rt: HostRuntime) -> Result<(), Fail> {
+    let mut source = new_region(rt.alloc(), 10_000)?;
+    let mut region = new_region(rt.alloc(), 10_000)?;
+    source.put(4_092, 4, 0x0403_0201);
+    region.fill(0, 16, 0xee);
+    region.copy_from(&source, 4_093, 1, 2);
+    assert_eq!(rt; region.get(0, 4), 0xee03_02ee);
+    region.copy_from(&source, 4_094, 4, 8);
+    assert_eq!(rt; region.get(3, 10), 0xee00_0000_0000_0004_03ee);
+    region.copy_from(&source, 9_998, 14, 2);
+    assert_eq!(rt; region.get(12, 4), 0xeeee);
+    region.copy_from(&source, 4_092, 9_996, 4);
+    assert_eq!(rt; region.get(9_994, 6), 0x0403_0201_0000);
+    region.copy_from(&source, 10_000, 0, 0);
+    assert_eq!(rt; region.byte(0), 0xee);
+    assert_eq!(rt; source.get(4_092, 4), 0x0403_0201);
     Ok(())
 }
