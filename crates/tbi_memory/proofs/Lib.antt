@@ -1,5 +1,6 @@
 pub mod ListLemmas
 pub mod MappedBytesLemmas
+pub mod MoveLemmas
 pub mod PartLemmas
 pub mod RangeLemmas
 pub mod RunLemmas

@@ -127,7 +127,7 @@ set_in-past r a v past =
     cond-true (nat_le r.at a) (record r { bytes = slice_set r.bytes (a - r.at) v }) r low
     ∙ ap (λ (ys : List ℕ). record r { bytes = ys }) (set_past r.bytes (a - r.at) v (omega (arith, past)))
 
-set_in-before : (r : Range) (a v : ℕ) → a < r.at → set_in r a v ≡ r
+pub set_in-before : (r : Range) (a v : ℕ) → a < r.at → set_in r a v ≡ r
 set_in-before r a v before =
     let high : nat_le r.at a ≡ false = grind (arith, nat_tests) in
     cond-false (nat_le r.at a) (record r { bytes = slice_set r.bytes (a - r.at) v }) r high

@@ -50,6 +50,13 @@ unfolding written written_on
 written-none space number n bytes count none =
     ap (λ (o : Option MemFault). written_on o (with_bytes space (address_of number) bytes)) (ap (write_fault space number) count ∙ none)
 
+-- and what is refused isn't
+pub written-some : (space : AddressSpace) (number n : ℕ) (bytes : List ℕ) (fault : MemFault) → length bytes ≡ n → write_fault space number n ≡ Some fault
+    → written space number bytes ≡ Err fault
+unfolding written written_on
+written-some space number n bytes fault count some =
+    ap (λ (o : Option MemFault). written_on o (with_bytes space (address_of number) bytes)) (ap (write_fault space number) count ∙ some)
+
 and-second : (s t u : Bool) → t ≡ false → (s && t && u) ≡ false
 and-second true t u e = ap (λ (b : Bool). b && u) e
 and-second false t u e = refl

@@ -80,7 +80,7 @@ with_tags-done space goal first count i tag done e =
     ∙ ap (λ (k : ℕ). with_tags space (first + i) (replicate k tag)) none
     ∙ e
 
-write-append : (ranges : List Range) (a : ℕ) (xs ys : List ℕ) → write ranges a (xs ++ ys) ≡ write (write ranges a xs) (a + length xs) ys
+pub write-append : (ranges : List Range) (a : ℕ) (xs ys : List ℕ) → write ranges a (xs ++ ys) ≡ write (write ranges a xs) (a + length xs) ys
 unfolding write
 write-append ranges a [] ys = let same : a ≡ a + 0 = omega arith in ap (λ (k : ℕ). write ranges k ys) same
 write-append ranges a (x ∷ xs) ys =

@@ -111,3 +111,12 @@ written space number bytes =
 -- the space after one byte was written so many times from a number on, or why it can't be
 abbrev pub filled : AddressSpace → (number count byte : ℕ) → Result AddressSpace MemFault
 filled space number count byte = written space number (replicate count byte)
+
+-- the space after so many bytes were copied from one number to another, all read before the first is written, or why they
+-- can't be: a byte that can't be read comes before one that can't be written
+unfoldable pub moved : AddressSpace → (to from count : ℕ) → Result AddressSpace MemFault
+moved space to from count =
+    elim (read space from count) [
+      | Err fault ↦ Err fault
+      | Ok bytes ↦ written space to bytes
+    ]

@@ -9,6 +9,7 @@ mod layout;
 mod mapped_part;
 mod mem_fault;
 mod memory;
+mod moves;
 
 pub use examples::{a_small_space, objects_in_memory, refused_accesses};
 pub use hw_shadow::Mismatch;

@@ -8,7 +8,7 @@ ghost use Rattle.hw_shadow.specs.TagRule.{mismatch_in, granules_touched};
 ghost use Rattle.tbi_memory.specs.AddressSpace.{space_at_start, last_byte, tag_at, check, read, meets_constants, write_fault, with_bytes, written, filled};
 ghost use Rattle.tbi_memory.specs.MappedBytes.{byte_at, set_byte, read_bytes};
 ghost use Rattle.tbi_memory.specs.MemoryParts.{bytes_or_zeros, check_one, number_read, passed_unless, with_tags};
-ghost use Rattle.tbi_memory.specs.ObjectMemory.{tag_object, tag_plain};
+ghost use Rattle.tbi_memory.specs.ObjectMemory.{tag_object, tag_plain, with_fresh_object};
 ghost use Rattle.std.specs.Prelude.{◌≡◌, ℕ, ◌+◌, ◌-◌, ◌*◌, ◌/◌, ◌%◌, ◌^◌, ◌<◌, ◌≤◌, length, replicate, unwrap_or, is_ok, IfOk, IfNone, OnOk, Ok, Some, Err};
 
 use crate::layout::Layout;
@@ -26,10 +26,10 @@ const ADDRESSES: u64 = 0x100_0000_0000_0000;
 /// it are ignored, but for the tag that `check` compares. Only `new` takes memory.
 #[derive(Drop)]
 pub struct Memory {
-    constants: MappedPart,
-    variables: MappedPart,
-    stacks: MappedPart,
-    heap: MappedPart,
+    pub(crate) constants: MappedPart,
+    pub(crate) variables: MappedPart,
+    pub(crate) stacks: MappedPart,
+    pub(crate) heap: MappedPart,
 }
 
 impl Model for Memory {
@@ -45,7 +45,7 @@ impl Model for Memory {
 
 /// The address that a number points to.
 #[inline(always)]
-fn address(v: u64) -> u64
+pub(crate) fn address(v: u64) -> u64
     ensures value { result ≡ address_of v }
     ensures below { result < 2 ^ 56 }
 {
@@ -202,6 +202,17 @@ impl Memory {
         }
     }
 
+    /// An object of `size` bytes is born at `at`, an address that is a multiple of 16: zeros in its whole granules, and its
+    /// tags.
+    pub fn fresh_object(&mut self, at: u64, size: u64, tag: u8)
+        requires place { at % 16 ≡ 0 }
+        requires end { at + size < 2 ^ 56 }
+        ensures { self.new ≡ with_fresh_object self.old at size tag }
+    {
+        self.put_all(at, (size.max(1) + 15) / 16 * 16, 0);
+        self.tag_object(at, size, tag);
+    }
+
     /// Sets one tag in all granules of `len` bytes from `at` on, both multiples of 16.
     pub fn tag_plain(&mut self, at: u64, len: u64, tag: u8)
         requires place { at % 16 ≡ 0 }
@@ -274,7 +285,7 @@ impl Memory {
     }
 
     /// The byte at an address, or 0 if it isn't mapped.
-    fn byte_or_zero(&self, a: u64) -> u8
+    pub(crate) fn byte_or_zero(&self, a: u64) -> u8
         ensures { result ≡ unwrap_or (byte_at self.now.bytes a) 0 }
     {
         match self.byte_of(a) {
@@ -284,7 +295,7 @@ impl Memory {
     }
 
     /// Writes the byte at an address, if it is mapped.
-    fn set_byte(&mut self, a: u64, byte: u8)
+    pub(crate) fn set_byte(&mut self, a: u64, byte: u8)
         ensures { self.new ≡ record self.old { bytes = set_byte self.old.bytes a byte } }
     {
         self.constants.set_byte(a, byte);
@@ -304,7 +315,7 @@ impl Memory {
     }
 
     /// The first address from `a` on that isn't mapped.
-    fn mapped_until(&self, a: u64) -> u64
+    pub(crate) fn mapped_until(&self, a: u64) -> u64
         requires small { a < 2 ^ 56 }
         ensures not_before { a ≤ result }
         ensures far { (n : ℕ) → n ≤ result - a → read_bytes self.now.bytes a n ≡ Ok (bytes_or_zeros self.now.bytes a n) }
@@ -366,7 +377,7 @@ impl Memory {
     }
 
     /// Why `n` bytes from `v` on can't be written, if they can't.
-    fn refusal(&self, v: u64, n: u64) -> Option<MemFault>
+    pub(crate) fn refusal(&self, v: u64, n: u64) -> Option<MemFault>
         ensures fault { result ≡ write_fault self.now v n }
         ensures end { IfNone result (address_of v + n < 2 ^ 64) }
     {

@@ -43,6 +43,10 @@ fn load_four_bytes(memory: &mut Memory) {
     memory.load_global(0x1_001e, 4, 0x0403_0201);
 }
 
+fn load_constant(memory: &mut Memory) {
+    memory.load_global(0x1_0004, 4, 0x0403_0201);
+}
+
 fn fills_the_heap(memory: &mut Memory) -> bool {
     memory.fill(0x2000_0000, 64, 7).is_ok()
 }
@@ -81,6 +85,33 @@ fn write_meets_constant(memory: &mut Memory, v: u64) -> bool {
 
 fn write_stops_at(memory: &mut Memory, v: u64, at: u64) -> bool {
     match memory.write(v, 2, 0xbbaa) {
+        Err(MemFault::Unmapped(found)) => found == at,
+        _ => false,
+    }
+}
+
+fn write_to_heap(memory: &mut Memory) {
+    let _ = memory.write(0x2000_0010, 4, 0x0403_0201);
+}
+
+/// Whether the bytes are moved, and the number of the four bytes at the heap's second granule is then this one.
+fn moves(memory: &mut Memory, to: u64, from: u64, n: u64, number: u128) -> bool {
+    memory.move_bytes(to, from, n).is_ok() && reads_four(memory, 0x2000_0010, number)
+}
+
+fn moves_over_the_border(memory: &mut Memory) -> bool {
+    memory.move_bytes(0x1_0020, 0x1_001e, 4).is_ok()
+}
+
+fn move_meets_constant(memory: &mut Memory, to: u64, from: u64, n: u64) -> bool {
+    match memory.move_bytes(to, from, n) {
+        Err(MemFault::ReadOnly) => true,
+        _ => false,
+    }
+}
+
+fn move_stops_at(memory: &mut Memory, to: u64, from: u64, n: u64, at: u64) -> bool {
+    match memory.move_bytes(to, from, n) {
         Err(MemFault::Unmapped(found)) => found == at,
         _ => false,
     }
@@ -180,5 +211,76 @@ fn parts_that_touch(rt: HostRuntime) -> Result<(), Fail> {
     assert!(rt; differs(&memory, 0x0900_0000_0001_001c, 9, 0x1_0020, 4, 9, 5));
     tag_two_granules(&mut memory);
     assert!(rt; passes(&memory, 0x0700_0000_0001_0010, 32));
+    Ok(())
+}
+
+#[test]
+fn bytes_are_moved_inside_a_part(rt: HostRuntime) -> Result<(), Fail> {
+    let mut memory = small_memory(rt.alloc())?;
+    write_to_heap(&mut memory);
+    assert!(rt;
+        moves(
+            &mut memory,
+            0x2000_0012,
+            0xab00_0000_2000_0010,
+            4,
+            0x0201_0201
+        )
+    );
+    assert!(rt; reads_four(&memory, 0x2000_0014, 0x0403));
+    assert!(rt;
+        moves(
+            &mut memory,
+            0xcd00_0000_2000_0011,
+            0x2000_0013,
+            3,
+            0x0403_0201
+        )
+    );
+    assert!(rt; reads_four(&memory, 0x2000_0014, 0x0403));
+    Ok(())
+}
+
+#[test]
+fn bytes_are_moved_between_parts(rt: HostRuntime) -> Result<(), Fail> {
+    let mut memory = small_memory(rt.alloc())?;
+    load_constant(&mut memory);
+    assert!(rt; moves(&mut memory, 0x2000_0010, 0x1_0004, 4, 0x0403_0201));
+    assert!(rt; moves(&mut memory, 0x10ff_fffc, 0x2000_0010, 4, 0x0403_0201));
+    assert!(rt; moves(&mut memory, 0x1_1002, 0x10ff_fffc, 3, 0x0403_0201));
+    assert!(rt; reads_four(&memory, 0x1_1001, 0x0302_0100));
+    assert!(rt; moves(&mut memory, 0x2000_0011, 0x1_1002, 4, 0x0302_0101));
+    Ok(())
+}
+
+#[test]
+fn moves_that_are_refused(rt: HostRuntime) -> Result<(), Fail> {
+    let mut memory = small_memory(rt.alloc())?;
+    write_to_heap(&mut memory);
+    assert!(rt; move_stops_at(&mut memory, 0x1_0000, 0x2000_003d, 4, 0x2000_0040));
+    assert!(rt; move_stops_at(&mut memory, 0x1_000e, 0x2000_0010, 4, 0x1_0010));
+    assert!(rt;
+        move_stops_at(
+            &mut memory,
+            0,
+            0x2000_0001,
+            0xffff_ffff_ffff_ffff,
+            0x2000_0040
+        )
+    );
+    assert!(rt; move_meets_constant(&mut memory, 0x1_000c, 0x2000_0010, 4));
+    assert!(rt; reads_four(&memory, 0x1_000c, 0));
+    assert!(rt; moves(&mut memory, 0x1_000c, 0x12_3456, 0, 0x0403_0201));
+    Ok(())
+}
+
+#[test]
+fn bytes_are_moved_over_a_border(rt: HostRuntime) -> Result<(), Fail> {
+    let mut memory = touching_memory(rt.alloc())?;
+    load_four_bytes(&mut memory);
+    assert!(rt; move_meets_constant(&mut memory, 0x1_001f, 0x1_001e, 4));
+    assert!(rt; moves_over_the_border(&mut memory));
+    assert!(rt; reads_four(&memory, 0x1_0020, 0x0403_0201));
+    assert!(rt; reads_four(&memory, 0x1_001e, 0x0201_0201));
     Ok(())
 }
