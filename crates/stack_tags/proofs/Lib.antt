@@ -1,2 +1,5 @@
 pub mod FrameLemmas
 pub mod LivingSizeLemmas
+pub mod StackLemmas
+pub mod TaskStackLemmas
+pub mod VariableLemmas

@@ -12,7 +12,7 @@ use Rattle.stack_tags.specs.Frames.{LivingFrame, TaskFrames, StacksState, no_fra
 use Rattle.stack_tags.specs.FrameSteps.{StacksAfter, new_frame, with_frame, after_entry, entered, without_newest, after_exit, left}
 use Rattle.stack_tags.proofs.FrameLemmas.{low-ends}
 
-top-sum : (end : ℕ) (frames : List LivingFrame) → FollowEachOther end frames → top_above end frames + size_sum frames ≡ end
+pub top-sum : (end : ℕ) (frames : List LivingFrame) → FollowEachOther end frames → top_above end frames + size_sum frames ≡ end
 top-sum end [] h = omega arith
 top-sum end (newest ∷ older) h =
     let sum = sum_by-cons (λ (f : LivingFrame). frame_size f.sizes) newest older in

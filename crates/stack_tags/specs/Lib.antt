@@ -1,3 +1,4 @@
 pub mod FrameSteps
 pub mod Frames
+pub mod KeptFrames
 pub mod SmallStacks
