@@ -1,2 +1,5 @@
+pub mod GapLemmas
 pub mod HeapBlockLemmas
+pub mod HeapLemmas
 pub mod LivingSizeLemmas
+pub mod TableLemmas

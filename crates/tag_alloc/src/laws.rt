@@ -1,9 +1,13 @@
 ghost use Rattle.tag_alloc.specs.declared.blocks.Block.{Block};
-ghost use Rattle.hw_base.specs.AddressMap.{AddressMap};
+ghost use Rattle.hw_base.specs.AddressMap.{AddressMap, rounded_size};
+ghost use Rattle.hw_holes.specs.FreeRanges.{place_for, taken, given};
+ghost use Rattle.hw_tags.specs.LeastPlace.{least_fit};
 ghost use Rattle.tbi_memory.specs.AddressSpace.{AddressSpace};
-ghost use Rattle.tag_alloc.specs.HeapBlocks.{HeapState, IsFreeable, IsTableOfBlocks, free_mismatch, heap_at_start, with_block, with_task, without_block};
+ghost use Rattle.tag_alloc.specs.HeapBlocks.{HeapState, IsFreeable, IsTableOfBlocks, free_mismatch, heap_at_start, span_of, with_block, with_task, without_block};
+ghost use Rattle.tag_alloc.specs.HeapTables.{AreInOrder, gaps};
 ghost use Rattle.tag_alloc.specs.HeapSteps.{AfterBirth, after_death, allocated};
-ghost use Rattle.std.specs.Prelude.{◌≡◌, ◌≢◌, ℕ, ◌↔◌, ◌⊎◌, List, None, Ok, Some, slice_get};
+ghost use Rattle.std.specs.Prelude.{◌≡◌, ◌≢◌, ℕ, ◌↔◌, ◌⊎◌, ◌%◌, ◌==◌, List, None, Ok, Some, map, slice_get};
+ghost use Rattle.std.specs.List.{find};
 
 /// A free is refused exactly if its number isn't 0 and no living block begins at its address with its tag.
 pub fn the_free_rule()
@@ -33,4 +37,19 @@ pub fn the_living_size_is_the_sum()
     ensures died { (heap : HeapState) (space : AddressSpace) (word task died i : ℕ) (block : Block)
         → IsTableOfBlocks heap → slice_get heap.living i ≡ Some block
         → IsTableOfBlocks (after_death heap space word task died block).heap }
+{}
+
+/// The free ranges of a heap are the gaps between its living blocks: the lowest place among them is the least place of the
+/// definition, and they are the gaps again after a birth there and after a death.
+pub fn the_free_ranges_are_the_gaps()
+    ensures place { (size low high : ℕ) (blocks : List Block) → low % 16 ≡ 0 → high % 16 ≡ 0 → AreInOrder low high blocks
+        → place_for (rounded_size size) (gaps low high blocks) ≡ least_fit (map span_of blocks) (rounded_size size) low high }
+    ensures born { (block : Block) (low high : ℕ) (blocks : List Block) → low % 16 ≡ 0 → high % 16 ≡ 0 → AreInOrder low high blocks
+        → place_for (rounded_size block.size) (gaps low high blocks) ≡ Some block.at
+        → (taken (rounded_size block.size) (gaps low high blocks) ≡ gaps low high (with_block block blocks))
+        × AreInOrder low high (with_block block blocks) }
+    ensures died { (block : Block) (low high : ℕ) (blocks : List Block) → high % 16 ≡ 0 → AreInOrder low high blocks
+        → find (λ b. b.at == block.at) blocks ≡ Some block
+        → (given block.at (rounded_size block.size) (gaps low high blocks) ≡ gaps low high (without_block block.at blocks))
+        × AreInOrder low high (without_block block.at blocks) }
 {}
