@@ -1,8 +1,8 @@
--- The tag work of what the machine runs: checks of one granule alone, since there are no variables and no accesses of other kinds.
-use Rattle.std.proofs.Common.{◌≡◌, ℕ, zero, suc, ◌≤◌, true, List, [], ◌∷◌, Option, None, refl, ap, ◌∙◌, arith}
+-- The tag work of what the machine runs: checks of one granule, and the ends of frames with variables, before returns alone.
+use Rattle.std.proofs.Common.{◌≡◌, ℕ, zero, suc, ◌≤◌, true, List, [], ◌∷◌, get_or, refl, arith}
 use Rattle.std.specs.Prelude.{Bool, false, ◌&&◌, if◌then◌else◌, nat_le}
-use Rattle.std.specs.List.{All, filter_map, cons_option}
-use Rattle.std.proofs.lemmas.List.Elements.{All-nil, All-cons, All-head, All-tail}
+use Rattle.std.specs.List.{All}
+use Rattle.std.proofs.lemmas.List.Elements.{All-nil, All-cons}
 use Rattle.hw_base.specs.declared.accesses.Access.{Access}
 use Rattle.hw_base.specs.declared.accesses.Access.TheVariants.{Read, Write}
 use Rattle.ir_core.specs.declared.lib_functions.Lib.{Lib}
@@ -10,18 +10,16 @@ use Rattle.ir_core.specs.declared.lib_functions.Lib.TheVariants as lib
 use Rattle.ir_core.specs.declared.operands.Placed.{Placed}
 use Rattle.ir_core.specs.declared.operations.Op.{Op}
 use Rattle.ir_core.specs.declared.operations.Op.TheVariants as op
-use Rattle.ir_core.specs.declared.ir_module.Inst.{Inst}
 use Rattle.ir_core.specs.declared.ir_module.Module.{Module}
-use Rattle.ir_core.specs.ResolvedBodies.{made_size}
 use Rattle.ir_core.specs.NumberTypes.{access_size, type_of}
 use Rattle.ir_check_types.proofs.PassedRules.{both}
-use Rattle.ir_machine.specs.Built.{IsBuiltOp}
+use Rattle.ir_machine.specs.Built.{IsBuiltAdded, IsBuiltOp}
 use Rattle.mi_code.specs.declared.operations.MiOp.{MiOp}
-use Rattle.mi_code.specs.declared.operations.MiOp.TheVariants.{One, Sized}
+use Rattle.mi_code.specs.declared.operations.MiOp.TheVariants.{Leave, One, Sized}
 use Rattle.mi_code.specs.declared.operands.MiOperand.{MiOperand}
 use Rattle.mi_code.specs.declared.operands.MiOperand.TheVariants.{Num}
 use Rattle.mi_code.specs.MachineOperands.{operand_of}
-use Rattle.mi_code.specs.TagChecks.{check_of, is_one_size, library_checks, lib_of, added_code, type_check}
+use Rattle.mi_code.specs.TagChecks.{check_of, is_one_size, leave_code, library_checks, lib_of, added_code, type_check}
 use Rattle.built_rows.specs.Unbuilt.{is_built_function, is_built_row, is_one_access}
 
 no-checks : (function : Lib) (args : List Placed) → is_built_function function ≡ true → library_checks function args ≡ []
@@ -29,6 +27,8 @@ no-checks lib.Putchar args built = refl
 no-checks lib.Exit args built = refl
 no-checks lib.Abort args built = refl
 no-checks lib.LlvmTrap args built = refl
+no-checks lib.LifetimeStart args built = refl
+no-checks lib.LifetimeEnd args built = refl
 no-checks lib.Assume args built = refl
 no-checks (lib.Bits kind width) args built = refl
 no-checks (lib.Overflow kind width) args built = refl
@@ -51,24 +51,32 @@ access-checked m ty align at access one =
 none-built : (ops : List MiOp) → ops ≡ [] → All IsBuiltOp ops
 none-built ops none = rw none (All-nil IsBuiltOp)
 
--- in a function without variables
-pub added-built : (m : Module) (o : Op) → is_built_row m o ≡ true → All IsBuiltOp (added_code m [] o)
-added-built m (op.Alloca index ty count) built = absurd cc
-added-built m (op.Load ty at align) built = access-checked m ty align at Read built
-added-built m (op.Store value at align) built = access-checked m value.ty align at Write built
-added-built m (op.Rmw kind at value align) built = absurd cc
-added-built m (op.CmpXchg at expected new align) built = absurd cc
-added-built m (op.CallLib declare result args start) built = none-built _ (no-checks (lib_of m declare) args built)
-added-built m other built = All-nil IsBuiltOp
+abbrev pub is_return : Op → Bool
+is_return (op.Ret value) = true
+is_return other = false
 
-no-variable : (m : Module) (o : Op) → is_built_row m o ≡ true → made_size m o ≡ None
-no-variable m (op.Alloca index ty count) built = absurd cc
-no-variable m other built = refl
+-- what is added before an instruction that is no return
+pub checks-built : (m : Module) (sizes : List ℕ) (o : Op) → is_return o ≡ false → is_built_row m o ≡ true → All IsBuiltOp (added_code m sizes o)
+checks-built m sizes (op.Load ty at align) other built = access-checked m ty align at Read built
+checks-built m sizes (op.Store value at align) other built = access-checked m value.ty align at Write built
+checks-built m sizes (op.Rmw kind at value align) other built = absurd cc
+checks-built m sizes (op.CmpXchg at expected new align) other built = absurd cc
+checks-built m sizes (op.CallLib declare result args start) other built = none-built _ (no-checks (lib_of m declare) args built)
+checks-built m sizes (op.Ret value) other built = absurd cc
+checks-built m sizes o other built = All-nil IsBuiltOp
 
--- the sizes of the variables of instructions
-pub no-variables : (m : Module) (insts : List Inst) → All (λ (inst : Inst). is_built_row m inst.op ≡ true) insts → filter_map (λ (inst : Inst). made_size m inst.op) insts ≡ []
-no-variables m [] built = refl
-no-variables m (inst ∷ insts) built =
-    ap (λ (size : Option ℕ). cons_option size (filter_map (λ (i : Inst). made_size m i.op) insts))
-    (no-variable m inst.op (All-head (λ (i : Inst). is_built_row m i.op ≡ true) inst insts built))
-    ∙ no-variables m insts (All-tail (λ (i : Inst). is_built_row m i.op ≡ true) inst insts built)
+pub built-added : (o : MiOp) → IsBuiltOp o → IsBuiltAdded o
+built-added Leave built = absurd built
+built-added o built = built
+
+all-added : (ops : List MiOp) → All IsBuiltOp ops → All IsBuiltAdded ops
+all-added ops built k d within = built-added (get_or ops k d) (built k d within)
+
+leave-built : (sizes : List ℕ) → All IsBuiltAdded (leave_code sizes)
+leave-built [] = All-nil IsBuiltAdded
+leave-built (size ∷ sizes) = All-cons IsBuiltAdded Leave [] tt (All-nil IsBuiltAdded)
+
+-- what is added before any instruction
+pub added-built : (m : Module) (sizes : List ℕ) (o : Op) → is_built_row m o ≡ true → All IsBuiltAdded (added_code m sizes o)
+added-built m sizes (op.Ret value) built = leave-built sizes
+added-built m sizes o built = all-added (added_code m sizes o) (checks-built m sizes o refl built)

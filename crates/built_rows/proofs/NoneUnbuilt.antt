@@ -1,5 +1,5 @@
 -- What holds if nothing in an accepted module is unbuilt.
-use Rattle.std.proofs.Common.{◌≡◌, ◌<◌, ◌^◌, true, [], get_or, None, ◌∙◌, arith}
+use Rattle.std.proofs.Common.{◌≡◌, ◌<◌, ◌^◌, true, get_or, None, arith}
 use Rattle.std.specs.List.{All}
 use Rattle.ir_core.specs.declared.faults.Fault.TheVariants.{Unsupported}
 use Rattle.ir_core.specs.declared.ir_module.Function.{Function}
@@ -13,13 +13,7 @@ use Rattle.ir_check_types.proofs.PassedRules.{none_second, none_among, holds, al
 use Rattle.ir_check_flow.specs.Checked.{IsChecked}
 use Rattle.built_rows.specs.Unbuilt.{is_built_row, unbuilt_instruction, unbuilt_function, unbuilt}
 use Rattle.built_rows.specs.Laws.{DeclaresAreThere}
-use Rattle.built_rows.proofs.AddedChecks.{no-variables}
 use Rattle.built_rows.proofs.Operations.{IsKnown, IsKnownModule}
-
--- what is known of a function: it has no variables, and its instructions are known
-pub record IsKnownFunction (m : Module) (f : Function) : Type 0 where
-  pub no_variables : f.allocas ≡ []
-  pub insts : All (IsKnown m f) f.insts
 
 rows-built : (m : Module) (f : Function) → unbuilt_function m f ≡ None → All (λ (inst : Inst). is_built_row m inst.op ≡ true) f.insts
 rows-built m f none k d within =
@@ -27,21 +21,19 @@ rows-built m f none k d within =
     holds (is_built_row m inst.op) Unsupported inst.place (none_among (unbuilt_instruction m) f.insts none k d within)
 
 function-known : (m : Module) (f : Function) → IsResolvedFunction m f → function_fault m f ≡ None → IsRunnableFunction m f → unbuilt_function m f ≡ None
-    → IsKnownFunction m f
+    → All (IsKnown m f) f.insts
 function-known m f resolved types runnable none =
     let rows = rows-built m f none in
     let rules = none_among (instruction_fault m f) f.insts (none_second _ (instructions_fault m f f.insts) types) in
-    record {
-      no_variables = resolved.variables.sizes ∙ no-variables m f.insts rows;
-      insts = λ k d within. record {
-        resolved = resolved.instructions k d within;
-        types = none_second _ (operation_fault m f (get_or f.insts k d).place (get_or f.insts k d).op) (rules k d within);
-        runnable = runnable.instructions k d within;
-        row = rows k d within;
-      };
+    λ k d within. record {
+      resolved = resolved.instructions k d within;
+      types = none_second _ (operation_fault m f (get_or f.insts k d).place (get_or f.insts k d).op) (rules k d within);
+      runnable = runnable.instructions k d within;
+      row = rows k d within;
     }
 
-pub functions-known : (m : Module) → IsChecked m → unbuilt m ≡ None → All (IsKnownFunction m) m.functions
+-- the instructions of each function are known
+pub functions-known : (m : Module) → IsChecked m → unbuilt m ≡ None → All (λ (f : Function). All (IsKnown m f) f.insts) m.functions
 functions-known m checked none k d within =
     let rest = none_second _ _ (none_second _ _ checked.types) in
     let rules = none_among (function_fault m) m.functions (none_second (first_among (declare_fault m) m.declares) (first_among (function_fault m) m.functions) rest) in

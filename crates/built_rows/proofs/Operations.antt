@@ -78,6 +78,8 @@ library-built f lib.Putchar r args start there built = tt
 library-built f lib.Exit r args start there built = tt
 library-built f lib.Abort r args start there built = tt
 library-built f lib.LlvmTrap r args start there built = tt
+library-built f lib.LifetimeStart r args start there built = tt
+library-built f lib.LifetimeEnd r args start there built = tt
 library-built f lib.Assume r args start there built = tt
 library-built f (lib.Bits kind width) r args start there built = there
 library-built f (lib.Overflow kind width) r args start there built = there
@@ -154,7 +156,6 @@ built-by m f starts here r place (op.Call func result args) known resolved none 
     subst (λ n. n < 2 ^ 32) (sym (length-map args operand_of)) few
 built-by m f starts here r place (op.CallLib declare result args start) known resolved none runnable row =
     library-built f (lib_of m declare) r args start (lib-there m.declares declare known.declares resolved.0) row
-built-by m f starts here r place (op.Alloca index ty count) known resolved none runnable row = absurd cc
 built-by m f starts here r place (op.Load ty at align) known resolved none runnable row =
     number-width m (type_of m ty) (type-resolved m known.types ty resolved.0)
     (holds (is_number_type (type_of m ty)) BadType place (none_first (number_type_fault m ty place) _ none))

@@ -1,6 +1,6 @@
--- What of a module the machine doesn't run yet, and its first place in the text: variables of frames, accesses that may touch more
--- than one granule, what deals with tasks, and library functions that use memory. The place of an instruction is its first token. This
--- project's choice; the table goes when the machine runs all.
+-- What of a module the machine doesn't run yet, and its first place in the text: accesses that may touch more than one granule, what
+-- deals with tasks, and library functions that use memory. The place of an instruction is its first token. This project's choice; the
+-- table goes when the machine runs all.
 use Rattle.std.specs.Prelude.{ℕ, ◌&&◌, Bool, true, false, nat_le, Option}
 use Rattle.ir_core.specs.declared.faults.Fault.TheVariants.{Unsupported}
 use Rattle.ir_core.specs.declared.refusals.Refusal.{Refusal}
@@ -24,6 +24,8 @@ is_built_function lib.Putchar = true
 is_built_function lib.Exit = true
 is_built_function lib.Abort = true
 is_built_function lib.LlvmTrap = true
+is_built_function lib.LifetimeStart = true
+is_built_function lib.LifetimeEnd = true
 is_built_function lib.Assume = true
 is_built_function (lib.Bits kind width) = true
 is_built_function (lib.Overflow kind width) = true
@@ -35,7 +37,6 @@ is_one_access type align = is_one_size (access_size type) && nat_le (access_size
 
 -- operations that the machine runs
 abbrev pub is_built_row : Module → Op → Bool
-is_built_row m (op.Alloca index ty count) = false
 is_built_row m (op.Load ty at align) = is_one_access (type_of m ty) align
 is_built_row m (op.Store value at align) = is_one_access (type_of m value.ty) align
 is_built_row m (op.Rmw kind at value align) = false

@@ -52,6 +52,8 @@ fn is_built_function(lib: Lib) -> bool
         Lib::Exit => true,
         Lib::Abort => true,
         Lib::LlvmTrap => true,
+        Lib::LifetimeStart => true,
+        Lib::LifetimeEnd => true,
         Lib::Assume => true,
         Lib::Bits { .. } => true,
         Lib::Overflow { .. } => true,
@@ -76,7 +78,7 @@ fn is_built_row(m: &Module, op: &Op) -> bool
     match op {
         Op::Load { ty, align, .. } => is_one_access(type_of(m, *ty), *align),
         Op::Store { value, align, .. } => is_one_access(type_of(m, value.ty), *align),
-        Op::Alloca { .. } | Op::Rmw { .. } | Op::CmpXchg { .. } => false,
+        Op::Rmw { .. } | Op::CmpXchg { .. } => false,
         Op::CallLib { declare, .. } => is_built_declare(m, *declare),
         _ => true,
     }
@@ -97,8 +99,7 @@ fn unbuilt_function(m: &Module, f: &Function) -> Option<Refusal>
 }
 
 /// The refusal of what comes first in the text of a module and isn't built, with the fault `Unsupported`, or none if the machine
-/// runs the whole module. Unbuilt are variables of frames, loads and stores that may touch more than one granule, atomic
-/// instructions, and library functions that use memory, read input or deal with tasks. The place of an instruction is that of its
+/// runs the whole module. Unbuilt are loads and stores that may touch more than one granule, atomic instructions, and library functions that use memory, read input or deal with tasks. The place of an instruction is that of its
 /// first token. It takes no memory, and time in proportion to the module.
 pub fn unbuilt(m: &Module) -> Option<Refusal>
     ensures { result ≡ unbuilt m.now }

@@ -117,8 +117,9 @@ fn unsupported(line: u32, column: u32) -> Option<Refusal> {
 }
 
 #[test]
-fn sums_and_aligned_loads_are_built(rt: HostRuntime) -> Result<(), Fail> {
+fn sums_variables_and_aligned_loads_are_built(rt: HostRuntime) -> Result<(), Fail> {
     assert_eq!(rt; found(rt.alloc(), sum(), load(4))?, None);
+    assert_eq!(rt; found(rt.alloc(), variable(), load(4))?, None);
     Ok(())
 }
 
@@ -126,12 +127,12 @@ fn sums_and_aligned_loads_are_built(rt: HostRuntime) -> Result<(), Fail> {
 fn what_is_unbuilt_is_refused_at_its_place(rt: HostRuntime) -> Result<(), Fail> {
     let alloc = rt.alloc();
     assert_eq!(rt; found(alloc, sum(), load(2))?, unsupported(4, 3));
-    assert_eq!(rt; found(alloc, variable(), sum())?, unsupported(3, 3));
+    assert_eq!(rt; found(alloc, load(1), sum())?, unsupported(3, 3));
     Ok(())
 }
 
 #[test]
 fn the_first_place_is_the_one_refused(rt: HostRuntime) -> Result<(), Fail> {
-    assert_eq!(rt; found(rt.alloc(), variable(), load(1))?, unsupported(3, 3));
+    assert_eq!(rt; found(rt.alloc(), load(2), load(1))?, unsupported(3, 3));
     Ok(())
 }

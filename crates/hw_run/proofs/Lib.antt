@@ -1,3 +1,4 @@
 pub mod Pieces
 pub mod RunSteps
 pub mod Jobs
+pub mod TestCode

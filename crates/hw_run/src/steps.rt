@@ -1,8 +1,7 @@
 ghost use Rattle.std.specs.Prelude.{◌≡◌, ℕ, ◌+◌, ◌≤◌, false, [], IfOk};
 ghost use Rattle.hw_base.specs.declared.numbers.TheConstants.{MOST_STEPS};
 ghost use Rattle.hw_tags.specs.TaskRuns.{run_from};
-ghost use Rattle.ir_machine.specs.Built.{HasCode};
-ghost use Rattle.ir_machine.specs.MachineStates.{world_of};
+ghost use Rattle.ir_machine.specs.MachineStates.{IsMachineOf, world_of};
 ghost use Rattle.ir_machine.specs.Runs.{step_in};
 ghost use Rattle.ir_machine.specs.State.{MachineSetting};
 ghost use Rattle.hw_run.specs.RunEnds.{IsRun};
@@ -24,9 +23,8 @@ fn made(output: ByteList, end: RunEnd) -> StepsMade
 pub fn run_steps(alloc: Global, machine: &mut Machine, bound: u64) -> Result<StepsMade, OutOfMemory>
     requires held { machine.old.lost ≡ false }
     requires bound { machine.old.steps + bound ≤ MOST_STEPS }
-    ensures run { (setting : MachineSetting) (turns : ℕ → ℕ) → HasCode setting machine.old.code
+    ensures { (setting : MachineSetting) (turns : ℕ → ℕ) → IsMachineOf setting machine.old
         → IfOk result (λ made. IsRun (run_from (step_in setting) [] turns bound (world_of machine.old)) made machine.new) }
-    ensures code { machine.new.code ≡ machine.old.code }
 {
     let mut output = ByteList::new(alloc);
     let mut left = bound;

@@ -1,8 +1,11 @@
-ghost use Rattle.std.specs.Prelude.{◌≡◌, ◌+◌, ◌≤◌, All, IfOk, OnOk, [], length};
+ghost use Rattle.std.specs.Prelude.{◌≡◌, ◌+◌, ◌^◌, ◌<◌, ◌≤◌, All, IfOk, OnOk, [], false, length};
+ghost use Rattle.mi_code.specs.declared.code_functions.Mi.{Mi as MiView};
 ghost use Rattle.ir_machine.specs.Built.{IsBuilt, IsBuiltCode, IsBuiltOp};
+ghost use Rattle.ir_core.specs.declared.ir_module.Function.{Function as SourceFunction};
 
 use super::*;
 use crate::closing::{ended_line, full_line, spent_line};
+use crate::job::run_started;
 use hw_base::{ByteList, Full, OutOfMemory, Site, SizeList, Space};
 use hw_tags::{Options, WordsSpec};
 use ir_core::{
@@ -16,8 +19,10 @@ use std::test::Fail;
 
 fn add(insts: &mut MiList, func: u32, inst: u32, op: MiOp) -> Result<(), OutOfMemory>
     requires built { All IsBuilt insts.old }
+    requires ops { All (λ (mi : MiView). IsBuiltOp mi.op) insts.old }
     requires op { IsBuiltOp op }
-    ensures { OnOk result (All IsBuilt insts.new) }
+    ensures built { OnOk result (All IsBuilt insts.new) }
+    ensures ops { OnOk result (All (λ (mi : MiView). IsBuiltOp mi.op) insts.new) }
 {
     insts.push(Mi {
         mark: Mark::Source(Site { func, inst }),
@@ -26,7 +31,8 @@ fn add(insts: &mut MiList, func: u32, inst: u32, op: MiOp) -> Result<(), OutOfMe
 }
 
 fn no_instructions(alloc: Global) -> MiList
-    ensures { All IsBuilt result }
+    ensures built { All IsBuilt result }
+    ensures ops { All (λ (mi : MiView). IsBuiltOp mi.op) result }
 {
     MiList::new(alloc)
 }
@@ -41,6 +47,7 @@ fn no_code(alloc: Global) -> Code
 fn add_function(alloc: Global, code: &mut Code, insts: MiList) -> Result<(), OutOfMemory>
     requires built { IsBuiltCode code.old }
     requires insts { All IsBuilt insts }
+    requires ops { All (λ (mi : MiView). IsBuiltOp mi.op) insts }
     ensures built { OnOk result (IsBuiltCode code.new) }
     ensures length { OnOk result (length code.new ≡ length code.old + 1) }
 {
@@ -54,9 +61,10 @@ fn add_function(alloc: Global, code: &mut Code, insts: MiList) -> Result<(), Out
     })
 }
 
-/// `main` prints an H and calls a function that traps.
-fn trapping_code(alloc: Global) -> Result<Code, OutOfMemory>
-    ensures { IfOk result (λ code. IsBuiltCode code × (length code ≡ 2)) }
+/// Prints an H, and calls function 1.
+fn main_code(alloc: Global) -> Result<MiList, OutOfMemory>
+    ensures built { IfOk result (λ insts. All IsBuilt insts) }
+    ensures ops { IfOk result (λ insts. All (λ (mi : MiView). IsBuiltOp mi.op) insts) }
 {
     let mut letter = MiOperandList::new(alloc);
     letter.push(MiOperand::Num(72))?;
@@ -71,18 +79,36 @@ fn trapping_code(alloc: Global) -> Result<Code, OutOfMemory>
         to: None,
         args: MiOperandList::new(alloc),
     };
-    let mut main = no_instructions(alloc);
-    add(&mut main, 0, 0, print)?;
-    add(&mut main, 0, 1, call)?;
-    let mut trap = no_instructions(alloc);
-    add(&mut trap, 1, 0, MiOp::Unreachable)?;
+    let mut insts = no_instructions(alloc);
+    add(&mut insts, 0, 0, print)?;
+    add(&mut insts, 0, 1, call)?;
+    Ok(insts)
+}
+
+/// Traps.
+fn trap_code(alloc: Global) -> Result<MiList, OutOfMemory>
+    ensures built { IfOk result (λ insts. All IsBuilt insts) }
+    ensures ops { IfOk result (λ insts. All (λ (mi : MiView). IsBuiltOp mi.op) insts) }
+{
+    let mut insts = no_instructions(alloc);
+    add(&mut insts, 1, 0, MiOp::Unreachable)?;
+    Ok(insts)
+}
+
+/// `main` prints an H and calls a function that traps.
+fn trapping_code(alloc: Global) -> Result<Code, OutOfMemory>
+    ensures built { IfOk result (λ code. IsBuiltCode code) }
+    ensures length { IfOk result (λ code. length code ≡ 2) }
+{
     let mut code = no_code(alloc);
-    add_function(alloc, &mut code, main)?;
-    add_function(alloc, &mut code, trap)?;
+    add_function(alloc, &mut code, main_code(alloc)?)?;
+    add_function(alloc, &mut code, trap_code(alloc)?)?;
     Ok(code)
 }
 
-fn named(alloc: Global, name: &[u8]) -> Result<Function, OutOfMemory> {
+fn named(alloc: Global, name: &[u8]) -> Result<Function, OutOfMemory>
+    ensures { IfOk result (λ f. f.allocas ≡ []) }
+{
     Ok(Function {
         name: ByteList::from_vec(name.to_vec(alloc)?),
         params: 0,
@@ -97,7 +123,9 @@ fn named(alloc: Global, name: &[u8]) -> Result<Function, OutOfMemory> {
 
 /// A module of functions with these names alone.
 fn named_module(alloc: Global, first: &[u8], second: &[u8]) -> Result<Module, OutOfMemory>
-    ensures { IfOk result (λ program. (program.globals ≡ []) × (program.main ≡ 0)) }
+    ensures globals { IfOk result (λ program. program.globals ≡ []) }
+    ensures main { IfOk result (λ program. program.main ≡ 0) }
+    ensures variables { IfOk result (λ program. All (λ (f : SourceFunction). All (λ size. size < 2 ^ 64) f.allocas) program.functions) }
 {
     let mut functions = FunctionList::new(alloc);
     functions.push(named(alloc, first)?)?;
@@ -114,6 +142,26 @@ fn named_module(alloc: Global, first: &[u8], second: &[u8]) -> Result<Module, Ou
     })
 }
 
+/// The machine before the first step of a module whose `main` has no variables.
+fn started(
+    alloc: Global,
+    program: &Module,
+    code: Code,
+    options: &Options,
+) -> Result<Machine, OutOfMemory>
+    requires built { IsBuiltCode code }
+    requires globals { program.now.globals ≡ [] }
+    requires variables { All (λ (f : SourceFunction). All (λ size. size < 2 ^ 64) f.allocas) program.now.functions }
+    requires main { program.now.main < length code }
+    ensures held { IfOk result (λ machine. machine.lost ≡ false) }
+    ensures first { IfOk result (λ machine. machine.steps ≡ 0) }
+{
+    match Machine::new(alloc, program, code, options) {
+        Ok(machine) => Ok(machine),
+        Err(_) => Err(OutOfMemory),
+    }
+}
+
 /// The closing text of the trapping run under a bound, and what it printed.
 fn trapping_run(alloc: Global, bound: u64) -> Result<(ByteList, ByteList), OutOfMemory>
     requires { bound ≤ 1000 }
@@ -127,10 +175,9 @@ fn trapping_run(alloc: Global, bound: u64) -> Result<(ByteList, ByteList), OutOf
         heap: 4_096,
         ring: 1,
     };
-    let mut machine = Machine::new(alloc, &program, code, &options)?;
-    let made = run_steps(alloc, &mut machine, bound)?;
-    let text = closing_text(alloc, &program, &machine, made.end, bound)?;
-    Ok((text, made.output))
+    let machine = started(alloc, &program, code, &options)?;
+    let gathered = run_started(alloc, &program, machine, bound)?;
+    Ok((gathered.text, gathered.output))
 }
 
 #[test]

@@ -1,34 +1,47 @@
--- Code that the machine runs has no entries.
-use Rattle.std.proofs.Common.{◌≡◌, ℕ, false, List, [], ◌∷◌, refl, subst, Option, Some, None, arith}
+-- What is known of code that the machine runs, by its functions and places.
+use Rattle.std.proofs.Common.{◌≡◌, ℕ, zero, suc, ◌+◌, List, [], ◌∷◌, refl, subst, Option, Some, None, arith}
+use Rattle.std.specs.Option.{ForSome}
 use Rattle.std.specs.Prelude.{All, slice_get}
 use Rattle.std.proofs.lemmas.Option.{slice_get_within, get_or_from_slice_get}
 use Rattle.mi_code.specs.declared.code_functions.CodeFunction.{CodeFunction}
 use Rattle.mi_code.specs.declared.code_functions.Mi.{Mi}
-use Rattle.ir_machine.specs.Built.{IsBuilt, IsBuiltCode}
-use Rattle.ir_machine.specs.CallSteps.{begins_with_entry, code_at}
+use Rattle.ir_machine.specs.Built.{BeginsWithReturn, HasReturns, IsBuilt, IsBuiltCode, IsBuiltFunctionCode, IsLeave, IsReturn}
+use Rattle.ir_machine.specs.CallSteps.{code_at, no_code}
 
-built-begins : (insts : List Mi) → All IsBuilt insts → begins_with_entry insts ≡ false
-built-begins [] h = refl
-built-begins (mi ∷ insts) h = (h 0 mi (omega arith)).no_entry
-
-built-among : (insts : List Mi) (place : ℕ) (mi : Mi) → All IsBuilt insts → slice_get insts place ≡ Some mi → IsBuilt mi
+pub built-among : (insts : List Mi) (place : ℕ) (mi : Mi) → All IsBuilt insts → slice_get insts place ≡ Some mi → IsBuilt mi
 built-among insts place mi h found =
     subst IsBuilt (get_or_from_slice_get insts place mi mi found) (h place mi (slice_get_within insts place mi found))
 
-built-function : (code : List CodeFunction) (func : ℕ) (f : CodeFunction) → IsBuiltCode code → slice_get code func ≡ Some f → All IsBuilt f.insts
-built-function code func f h found =
-    subst (λ (function : CodeFunction). All IsBuilt function.insts) (get_or_from_slice_get code func f f found) (h func f (slice_get_within code func f found))
-
-built-insts : (code : List CodeFunction) (func : ℕ) → IsBuiltCode code → All IsBuilt (code_at code func).insts
-built-insts code func h = by (slice_get code func) refl
+-- the code of each function; one that isn't there has no instruction
+pub built-function : (code : List CodeFunction) (func : ℕ) → IsBuiltCode code → IsBuiltFunctionCode (code_at code func)
+built-function code func h = by (slice_get code func) refl
   where
-    by : (o : Option CodeFunction) → slice_get code func ≡ o → All IsBuilt (code_at code func).insts
-    by None none = rw none (λ k d lt. absurd (omega arith))
-    by (Some f) found = rw found (built-function code func f h found)
-
-pub built-no_entry : (code : List CodeFunction) (func : ℕ) → IsBuiltCode code → begins_with_entry (code_at code func).insts ≡ false
-built-no_entry code func h = built-begins (code_at code func).insts (built-insts code func h)
+    by : (o : Option CodeFunction) → slice_get code func ≡ o → IsBuiltFunctionCode (code_at code func)
+    by None none = rw none (record { built = λ k d lt. absurd (omega arith); returns = tt })
+    by (Some f) found =
+        rw found (subst IsBuiltFunctionCode (get_or_from_slice_get code func f f found) (h func f (slice_get_within code func f found)))
 
 -- each instruction of such code is one that the machine runs
 pub built-at : (code : List CodeFunction) (func place : ℕ) (mi : Mi) → IsBuiltCode code → slice_get (code_at code func).insts place ≡ Some mi → IsBuilt mi
-built-at code func place mi h found = built-among (code_at code func).insts place mi (built-insts code func h) found
+built-at code func place mi h found = built-among (code_at code func).insts place mi (built-function code func h).built found
+
+return-first : (insts : List Mi) (next : Mi) → BeginsWithReturn insts → slice_get insts 0 ≡ Some next → IsReturn next.op
+return-first [] next begins found = absurd cc
+return-first (mi ∷ insts) next begins found =
+    let same : mi ≡ next = cc in
+    subst (λ (m : Mi). IsReturn m.op) same begins
+
+-- after the end of a frame with variables comes a return
+return-after : (insts : List Mi) (place : ℕ) (mi next : Mi) → HasReturns insts → slice_get insts place ≡ Some mi → IsLeave mi.op
+    → slice_get insts (suc place) ≡ Some next → IsReturn next.op
+return-after [] place mi next has found leave after = absurd cc
+return-after (first ∷ insts) zero mi next has found leave after =
+    let same : mi ≡ first = cc in
+    return-first insts next (has.0 (subst (λ (m : Mi). IsLeave m.op) same leave)) after
+return-after (first ∷ insts) (suc place) mi next has found leave after = return-after insts place mi next has.1 found leave after
+
+pub returns-after : (insts : List Mi) (place : ℕ) (mi : Mi) → HasReturns insts → slice_get insts place ≡ Some mi → IsLeave mi.op
+    → ForSome (slice_get insts (place + 1)) (λ (next : Mi). IsReturn next.op)
+returns-after insts place mi has found leave next after =
+    let more : place + 1 ≡ suc place = omega arith in
+    return-after insts place mi next has found leave (subst (λ n. slice_get insts n ≡ Some next) more after)

@@ -1,6 +1,9 @@
 pub mod StartLemmas
 pub mod OneTask
-pub mod ChainGrowth
+pub mod StepGrowth
+mod EntrySteps
+mod ProgramLemmas
+mod StartedMachines
 pub mod TurnSteps
 pub mod BuiltCode
 pub mod Outcomes

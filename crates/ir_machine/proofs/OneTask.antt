@@ -8,9 +8,13 @@ use Rattle.ir_machine.specs.declared.progress.Progress.TheVariants.{Ran, Printed
 use Rattle.ir_machine.specs.declared.stepped.Stepped.{Stepped}
 use Rattle.ir_machine.specs.declared.stepped.Stepped.TheVariants as stepped
 use Rattle.ir_machine.specs.Runs.{step_in}
-use Rattle.ir_machine.specs.MachineStates.{MachineState, world_of, IsEnd, IsStep}
-use Rattle.ir_machine.specs.RunStates.{RunState, IsOutcome, EndsRun}
-use Rattle.ir_machine.specs.State.{MachineSetting, MachineSeen, MachineOutcome, MachineWorld, MachineWorldStep}
+use Rattle.ir_machine.specs.Built.{IsBuiltCode}
+use Rattle.ir_machine.specs.MachineStates.{MachineState, world_of, IsEnd, IsMachineOf, IsReady, IsStep}
+use Rattle.ir_machine.specs.Programs.{AreSmall, HasProgram}
+use Rattle.ir_machine.specs.RunStates.{RunState, IsOutcome, EndsRun, GrowsByOne}
+use Rattle.ir_machine.specs.State.{MachineSetting, MachineSeen, MachineShared, MachineOutcome, MachineWorld, MachineWorldStep}
+use Rattle.ir_machine.specs.declared.program.Program.{Program}
+use Rattle.ir_machine.proofs.StepGrowth.{next-words}
 
 -- the only task makes the step, whatever the turn words
 pub one-task : (step : MachineSeen → MachineOutcome) (turns : ℕ → ℕ) (m : MachineState) (seen : MachineSeen) → m.run.seen.task ≡ 0 → m.run.seen.finished ≡ false ∷ []
@@ -82,3 +86,41 @@ ended-no-next w v printed (Starts s report frame) ends same = ends
 ended-no-next w v printed (Finishes shared report) ends same = ends
 ended-no-next w v printed (Ends shared frames report ending) ends same = cc
 ended-no-next w v printed Stuck ends same = ends
+
+-- ---- the machine after a step
+
+begun-shared : (begun run : RunState) (step : ℕ) → begun ≡ record run { seen = record run.seen { step = step } } → begun.seen.shared ≡ run.seen.shared
+begun-shared begun run step same = ap (λ (v : RunState). v.seen.shared) same
+
+module _ (before after : MachineState) (begun : RunState) (same : begun ≡ record before.run { seen = record before.run.seen { step = before.steps + 1 } }) (program : after.program ≡ before.program) (grows : GrowsByOne before.words after.words begun.seen.shared after.run.seen.shared) where
+  grown : GrowsByOne before.words after.words before.run.seen.shared after.run.seen.shared
+  grown = subst (λ (shared : MachineShared). GrowsByOne before.words after.words shared after.run.seen.shared) (begun-shared begun before.run (before.steps + 1) same) grows
+
+  -- it is still one of the setting
+  pub machine-kept : (setting : MachineSetting) → IsMachineOf setting before → IsMachineOf setting after
+  machine-kept setting is =
+      record {
+        program = subst (HasProgram setting) (sym program) is.program;
+        words = next-words setting before.words after.words before.run.seen.shared.drawn after.run.seen.shared.drawn is.words grown.drawn;
+      }
+
+  -- and can make a step
+  pub ready-kept : IsReady before → before.lost ≡ false → after.steps ≡ before.steps + 1 → IsReady after
+  ready-kept ready held count =
+      let chains = grown.chains in
+      let births = grown.births in
+      let drawn = grown.drawn.drawn in
+      let few = grown.drawn.few in
+      let stacks = grown.stacks_are in
+      let chains_before = ready.chains held in
+      let births_before = ready.births held in
+      let drawn_before = ready.drawn held in
+      let stack_before = ready.stack held in
+      record {
+        built = subst (λ (p : Program). IsBuiltCode p.code) (sym program) ready.built;
+        small = subst AreSmall (sym program) ready.small;
+        chains = λ e. omega (arith, chains, chains_before, count);
+        births = λ e. omega (arith, births, births_before, count);
+        drawn = λ e. omega (arith, drawn, few, drawn_before, count);
+        stack = λ e. omega (arith, stacks, stack_before);
+      }

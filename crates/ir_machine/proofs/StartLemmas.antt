@@ -1,9 +1,10 @@
 -- The start of a run of a module.
-use Rattle.std.proofs.Common.{◌≡◌, ℕ, ◌<◌, true, false, List, [], ◌∷◌, length, get_or, refl, ap, ◌∙◌, Some, arith}
+use Rattle.std.proofs.Common.{◌≡◌, ℕ, ◌<◌, true, false, List, [], ◌∷◌, length, get_or, refl, ap, ◌∙◌, Some, Ok, Err, arith}
 use Rattle.std.specs.Prelude.{slice_get, ◌==◌}
 use Rattle.std.proofs.lemmas.Bool.Decides.{nat_tests}
 use Rattle.std.proofs.lemmas.Option.{slice_get-get_or}
-use Rattle.hw_tags.specs.TaskRuns.{Next}
+use Rattle.hw_base.specs.declared.endings.Full.{Full}
+use Rattle.hw_tags.specs.TaskRuns.{Next, Last}
 use Rattle.hw_tags.specs.declared.options.Options.{Options}
 use Rattle.ir_core.specs.declared.ir_module.Module.{Module}
 use Rattle.global_tags.specs.GlobalBytes.{with_globals}
@@ -16,13 +17,13 @@ use Rattle.tbi_memory.specs.declared.layout.Layout.{Layout}
 use Rattle.ir_core.specs.declared.ir_module.GlobalVar.{GlobalVar}
 use Rattle.mi_code.specs.declared.code_functions.CodeFunction.{CodeFunction}
 use Rattle.ir_tasks.specs.CallStacks.{fresh_frame}
-use Rattle.ir_machine.specs.Built.{IsBuiltCode}
-use Rattle.ir_machine.specs.CallSteps.{code_at, no_code, with_arguments}
+use Rattle.ir_tasks.specs.Frames.{at_place}
+use Rattle.stack_tags.specs.Frames.{StacksState, stacks_at_start, with_task}
+use Rattle.ir_machine.specs.CallSteps.{code_at, entry_of, no_code, with_arguments}
 use Rattle.ir_machine.specs.MachineStates.{MachineState, world_of, IsSettingOf}
-use Rattle.ir_machine.specs.RunStates.{first_state, loaded_module, shared_of}
-use Rattle.ir_machine.specs.Start.{global_births, machine_start}
-use Rattle.ir_machine.specs.State.{MachineSetting}
-use Rattle.ir_machine.proofs.BuiltCode.{built-no_entry}
+use Rattle.ir_machine.specs.RunStates.{loaded_module, shared_of}
+use Rattle.ir_machine.specs.Start.{first_world, global_births, machine_start, main_entered, main_started, shared_at_start}
+use Rattle.ir_machine.specs.State.{MachineSetting, MachineShared, IsFull}
 
 -- all globals are one birth, which draws one word
 one-each : (globals : List GlobalVar) → global_words globals ≡ global_births globals
@@ -32,14 +33,34 @@ one-each (global ∷ globals) = refl
 some-function : (code : List CodeFunction) (func : ℕ) → func < length code → (f : CodeFunction) × (slice_get code func ≡ Some f)
 some-function code func h = (get_or code func no_code, slice_get-get_or code func no_code h)
 
-pub started : (setting : MachineSetting) (program : Module) (code : List CodeFunction) (options : Options) (m : MachineState)
-    → IsSettingOf setting program code options → IsBuiltCode code → program.main < length code
-    → m.run ≡ first_state (loaded_module program options) (fresh_frame program.main (code_at code program.main).registers 0 0) → m.steps ≡ 0
-    → machine_start setting ≡ Next (world_of m) []
-unfolding machine_start with_arguments
-started setting program code options m is built main run steps =
-    let f = some-function code program.main main in
-    rw (is.program_is, is.code_is, is.places_are, is.ring_is, f.1, built-no_entry code program.main built, is.word_is, one-each program.globals, run, steps) refl
+-- what all tasks share before `main` is entered
+at-start : (setting : MachineSetting) (program : Module) (code : List CodeFunction) (options : Options) → IsSettingOf setting program code options
+    → shared_at_start setting ≡ loaded_module program options
+at-start setting program code options is = rw (is.program_is, is.places_are, is.ring_is, is.words_are 0) refl
+
+module _ (setting : MachineSetting) (program : Module) (code : List CodeFunction) (options : Options) (is : IsSettingOf setting program code options) (main : program.main < length code) where
+  here : machine_start setting ≡ main_entered setting (entry_of setting 0 program.main 0 (loaded_module program options))
+  unfolding machine_start
+  here =
+      let (f, found) = some-function code program.main main in
+      let main_is : setting.program.main ≡ program.main = ap (λ (m : Module). m.main) is.program_is in
+      let there : slice_get setting.code setting.program.main ≡ Some f = rw (is.code_is, main_is) found in
+      ap (main_started setting) there
+      ∙ (ap (λ (n : ℕ). main_entered setting (entry_of setting 0 n 0 (shared_at_start setting))) main_is
+      ∙ ap (λ (shared : MachineShared). main_entered setting (entry_of setting 0 program.main 0 shared)) (at-start setting program code options is))
+
+  -- `main` is entered
+  pub started : (place : ℕ) (m : MachineState) → entry_of setting 0 program.main 0 (loaded_module program options) ≡ Ok (record { shared = m.run.seen.shared; place = place })
+      → m.run.seen.frame ≡ at_place (fresh_frame program.main (code_at code program.main).registers 0 0) place → m.run.seen.callers ≡ [] → m.steps ≡ 0
+      → machine_start setting ≡ Next (world_of m) []
+  unfolding with_arguments
+  started place m entry frame callers steps =
+      here ∙ (ap (main_entered setting) entry ∙ rw (is.program_is, is.code_is, frame, callers, steps) refl)
+
+  -- there is no room for its variables
+  pub full-start : (full : Full) → entry_of setting 0 program.main 0 (loaded_module program options) ≡ Err full
+      → machine_start setting ≡ Last (first_world (shared_at_start setting) []) [] (IsFull full)
+  full-start full entry = here ∙ ap (main_entered setting) entry
 
 -- ---- what is shared when the globals are in memory
 
@@ -51,12 +72,13 @@ pub births-one : (globals : List GlobalVar) → (length globals == 0) ≡ false 
 births-one [] e = absurd cc
 births-one (global ∷ globals) e = refl
 
-pub loaded-shared : (m : Module) (options : Options) (births w : ℕ) (memory before : AddressSpace) (found : List Descriptor) (layout : Layout)
+pub loaded-shared : (m : Module) (options : Options) (births drawn w : ℕ) (frames : StacksState) (memory before : AddressSpace) (found : List Descriptor) (layout : Layout)
     → w ≡ word options.tags 0 → found ≡ descriptors_of (program_map options.heap) m.layouts m.globals w → memory ≡ with_globals found before found m.globals
     → before ≡ space_at_start (program_map layout.heap) layout → layout.heap ≡ options.heap → layout ≡ layout_of (program_map options.heap) m.layouts m.globals
-    → births ≡ global_births m.globals → shared_of memory found births options.heap options.ring [] ≡ loaded_module m options
-loaded-shared m options births w memory before found layout first is_found is_memory is_before heap is_layout is_births =
+    → frames ≡ with_task (stacks_at_start (program_map options.heap) options.ring) → births ≡ global_births m.globals → drawn ≡ births
+    → shared_of memory found frames births drawn options.heap options.ring [] ≡ loaded_module m options
+loaded-shared m options births drawn w frames memory before found layout first is_found is_memory is_before heap is_layout is_frames is_births is_drawn =
     let space : before ≡ space_at_start (program_map options.heap) (layout_of (program_map options.heap) m.layouts m.globals) =
     is_before ∙ (ap (λ n. space_at_start (program_map n) layout) heap ∙ ap (space_at_start (program_map options.heap)) is_layout) in
     let globals : found ≡ descriptors_of (program_map options.heap) m.layouts m.globals (word options.tags 0) = is_found ∙ ap (descriptors_of (program_map options.heap) m.layouts m.globals) first in
-    rw (is_births, is_memory, space, globals) refl
+    rw (is_drawn, is_births, is_memory, space, globals, is_frames, one-each m.globals) refl

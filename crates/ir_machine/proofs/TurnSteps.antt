@@ -1,5 +1,5 @@
 -- A step is that of the instruction where the frame is, and then of those after it.
-use Rattle.std.proofs.Common.{◌≡◌, ℕ, zero, suc, ◌+◌, ◌≤◌, List, [], ◌∷◌, drop, length, refl, ap, ◌∙◌, subst, Some, None, arith}
+use Rattle.std.proofs.Common.{◌≡◌, ◌≢◌, ℕ, zero, suc, ◌+◌, ◌≤◌, List, [], ◌∷◌, drop, length, refl, sym, ap, ◌∙◌, subst, Option, Some, None, arith}
 use Rattle.std.specs.Prelude.{slice_get}
 use Rattle.hw_base.specs.declared.endings.Input.{Input}
 use Rattle.hw_base.specs.declared.accesses.Access.{Access}
@@ -9,10 +9,12 @@ use Rattle.mi_code.specs.declared.code_functions.Mi.{Mi}
 use Rattle.mi_code.specs.declared.code_functions.CodeFunction.{CodeFunction}
 use Rattle.mi_code.specs.declared.operations.MiOp.{MiOp}
 use Rattle.mi_code.specs.declared.operations.MiOp.TheVariants as machine
-use Rattle.ir_machine.specs.Built.{IsNoCheck, IsPlainAfter, IsPlainFrom, IsPlainOp}
+use Rattle.ir_machine.specs.Built.{IsBuiltAdded, IsBuiltOp, IsOrdinary, IsPlainAfter, IsPlainFrom, IsPlainOp}
 use Rattle.ir_machine.specs.CallSteps.{code_at}
 use Rattle.ir_machine.specs.InstructionStep.{steps_within, marked_step}
-use Rattle.ir_machine.specs.State.{MachineSetting, MachineSeen}
+use Rattle.ir_machine.specs.State.{MachineSetting, MachineSeen, MachineOutcome}
+use Rattle.ir_machine.specs.RunStates.{RunState, IsOutcome}
+use Rattle.ir_machine.specs.declared.progress.Progress.{Progress}
 
 -- with fuel left the step is that of the instruction at the place of the frame
 pub steps_within-at : (setting : MachineSetting) (given : Input) (fuel : ℕ) (s : MachineSeen) (code : List CodeFunction) (mi : Mi) → setting.code ≡ code
@@ -40,6 +42,22 @@ pub steps_within-none : (setting : MachineSetting) (given : Input) (fuel : ℕ) 
 unfolding steps_within
 steps_within-none setting given zero s none = refl
 steps_within-none setting given (suc fuel) s none = absurd (omega (arith, none))
+
+-- a step that isn't stuck is that of the instruction where the frame is
+pub step-there : (setting : MachineSetting) (given : Input) (fuel : ℕ) (s : MachineSeen) (code : List CodeFunction) (mi : Mi) (progress : Progress) (v : RunState)
+    → setting.code ≡ code → slice_get (code_at code s.frame.func).insts s.frame.place ≡ Some mi → steps_within setting given fuel s ≢ Stuck
+    → ((next : MachineSeen → MachineOutcome) → marked_step setting given next s mi.mark mi.op ≢ Stuck → IsOutcome (marked_step setting given next s mi.mark mi.op) progress v)
+    → IsOutcome (steps_within setting given fuel s) progress v
+step-there setting given zero s code mi progress v same found goes h = absurd (goes (steps_within-none setting given 0 s refl))
+step-there setting given (suc fuel) s code mi progress v same found goes h =
+    let at = steps_within-at setting given fuel s code mi same found in
+    subst (λ (o : MachineOutcome). IsOutcome o progress v) (sym at) (h (steps_within setting given fuel) (λ stuck. goes (at ∙ stuck)))
+
+-- a step at no instruction is stuck
+pub stuck-nowhere : (setting : MachineSetting) (given : Input) (fuel : ℕ) (s : MachineSeen) (code : List CodeFunction) → setting.code ≡ code
+    → slice_get (code_at code s.frame.func).insts s.frame.place ≡ None → steps_within setting given fuel s ≡ Stuck
+stuck-nowhere setting given zero s code same found = steps_within-none setting given 0 s refl
+stuck-nowhere setting given (suc fuel) s code same found = steps_within-nowhere setting given fuel s code same found
 
 -- what follows an instruction
 pub drop-at : (insts : List Mi) (place : ℕ) (mi : Mi) → slice_get insts place ≡ Some mi → drop place insts ≡ mi ∷ drop (place + 1) insts
@@ -69,11 +87,23 @@ plain-nowhere (mi ∷ insts) (suc place) none plain = plain-nowhere insts place 
 pub plain-here : (insts : List Mi) (place : ℕ) (mi : Mi) → slice_get insts place ≡ Some mi → IsPlainFrom (drop place insts) → IsPlainAfter mi.op (IsPlainFrom (drop (place + 1) insts))
 plain-here insts place mi found plain = subst IsPlainFrom (drop-at insts place mi found) plain
 
--- an instruction that is no check takes no memory if it is one of those that don't
-pub plain-after : (op : MiOp) (rest : Type 0) → IsNoCheck op → IsPlainAfter op rest → IsPlainOp op
-plain-after (machine.One at size access) rest other_op plain = absurd other_op
-plain-after op rest other_op plain = plain
+-- an ordinary instruction takes no memory if it is one of those that don't
+pub plain-after : (op : MiOp) (rest : Type 0) → IsOrdinary op → IsPlainAfter op rest → IsPlainOp op
+plain-after (machine.One at size access) rest ordinary plain = absurd ordinary
+plain-after op rest ordinary plain = plain
 
-pub no-check : (op : MiOp) → ((at : MiOperand) (size : ℕ) (access : Access) → op ≡ machine.One at size access → ⊥) → IsNoCheck op
-no-check (machine.One at size access) other_op = other_op at size access refl
-no-check op other_op = tt
+-- what is no check, no call and no end of a frame
+pub ordinary : (op : MiOp) → ((at : MiOperand) (size : ℕ) (access : Access) → op ≡ machine.One at size access → ⊥)
+    → ((func : ℕ) (to : Option ℕ) (args : List MiOperand) → op ≡ machine.Call func to args → ⊥) → (op ≡ machine.Leave → ⊥) → IsOrdinary op
+ordinary (machine.One at size access) no_check no_call no_leave = no_check at size access refl
+ordinary (machine.Call func to args) no_check no_call no_leave = no_call func to args refl
+ordinary machine.Leave no_check no_call no_leave = no_leave refl
+ordinary op no_check no_call no_leave = tt
+
+pub built-ordinary : (op : MiOp) → IsBuiltAdded op → IsOrdinary op → IsBuiltOp op
+built-ordinary machine.Leave built other = absurd other
+built-ordinary op built other = built
+
+-- neither an entry nor the end of a frame takes no memory
+pub entry-not-plain : (op : MiOp) (rest : Type 0) → op ≡ machine.Enter → IsPlainAfter op rest → ⊥
+entry-not-plain op rest is plain = subst (λ (o : MiOp). IsPlainAfter o rest) is plain

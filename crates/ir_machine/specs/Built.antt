@@ -1,6 +1,6 @@
--- The instructions that the machine runs today: not those of frames with variables, of blocks and tasks, with the widths that they
--- can have; and what the code of a run is. This project's choice.
-use Rattle.std.specs.Prelude.{◌≡◌, ◌≤◌, ◌<◌, ◌^◌, false, List, [], ◌∷◌, drop, length, All}
+-- The instructions that the machine runs today: not those of blocks and tasks, with the widths that they can have; and what the
+-- code of a run is. This project's choice.
+use Rattle.std.specs.Prelude.{◌≡◌, ◌≤◌, ◌<◌, ◌^◌, List, [], ◌∷◌, drop, length, All}
 use Rattle.hw_base.specs.ByteSwap.{HasPairs}
 use Rattle.hw_base.specs.declared.numbers.TheConstants.{MOST_FRAMES}
 use Rattle.ir_arith.specs.Conversion.{IsConversion}
@@ -8,13 +8,15 @@ use Rattle.ir_core.specs.Externals.{IsWidth}
 use Rattle.ir_core.specs.declared.lib_functions.Lib.{Lib}
 use Rattle.ir_core.specs.declared.lib_functions.Lib.TheVariants as lib
 use Rattle.mi_code.specs.declared.code_functions.CodeFunction.{CodeFunction}
+use Rattle.mi_code.specs.declared.code_functions.Mark.{Mark}
+use Rattle.mi_code.specs.declared.code_functions.Mark.TheVariants.{Entry, Added, Source}
 use Rattle.mi_code.specs.declared.code_functions.Mi.{Mi}
 use Rattle.mi_code.specs.declared.operands.IndexStep.{IndexStep}
 use Rattle.mi_code.specs.declared.operands.IndexStep.TheVariants.{Scaled, Offset}
 use Rattle.mi_code.specs.declared.operations.MiOp.{MiOp}
 use Rattle.ir_tasks.specs.Frames.{Frame}
 use Rattle.mi_code.specs.declared.operations.MiOp.TheVariants as machine
-use Rattle.ir_machine.specs.CallSteps.{code_at, is_entry}
+use Rattle.ir_machine.specs.CallSteps.{code_at}
 use Rattle.ir_machine.specs.Operands.{bits_in}
 use Rattle.ir_machine.specs.State.{MachineSetting}
 
@@ -32,6 +34,7 @@ IsBuiltStep (Scaled value width size) = IsWidth width
 IsBuiltStep (Offset off) = Unit {0}
 
 abbrev pub IsBuiltOp : MiOp → Type 0
+IsBuiltOp (machine.Alloca to variable) = Unit {0}
 IsBuiltOp (machine.One at size access) = 1 ≤ size
 IsBuiltOp (machine.Gep to base indices) = All IsBuiltStep indices
 IsBuiltOp (machine.Load width to at) = IsWidth (bits_in width)
@@ -54,18 +57,56 @@ IsBuiltOp (machine.Ret value) = Unit {0}
 IsBuiltOp machine.Unreachable = Unit {0}
 IsBuiltOp other = ⊥
 
--- an instruction that is no check of one granule, after which a step goes on
-abbrev pub IsNoCheck : MiOp → Type 0
-IsNoCheck (machine.One at size access) = ⊥
-IsNoCheck op = Unit {0}
+-- an instruction that ends its step and calls no function
+abbrev pub IsOrdinary : MiOp → Type 0
+IsOrdinary machine.Leave = ⊥
+IsOrdinary (machine.One at size access) = ⊥
+IsOrdinary (machine.Call func to args) = ⊥
+IsOrdinary op = Unit {0}
 
--- an instruction that the machine runs, and that is no entry
-pub record IsBuilt (mi : Mi) : Type 0 where
-  pub op : IsBuiltOp mi.op
-  pub no_entry : is_entry mi.mark ≡ false
+-- an instruction that is added before one of the source: the end of a frame with variables too
+abbrev pub IsBuiltAdded : MiOp → Type 0
+IsBuiltAdded machine.Leave = Unit {0}
+IsBuiltAdded op = IsBuiltOp op
+
+-- an instruction that the machine runs, or an entry, which is run by what enters its function
+abbrev pub IsBuiltAs : Mark → MiOp → Type 0
+IsBuiltAs Entry op = op ≡ machine.Enter
+IsBuiltAs (Added site) op = IsBuiltAdded op
+IsBuiltAs (Source site) op = IsBuiltOp op
+
+abbrev pub IsBuilt : Mi → Type 0
+IsBuilt mi = IsBuiltAs mi.mark mi.op
+
+-- ---- returns
+
+abbrev pub IsLeave : MiOp → Type 0
+IsLeave machine.Leave = Unit {0}
+IsLeave other = ⊥
+
+abbrev pub IsReturn : MiOp → Type 0
+IsReturn (machine.Ret value) = Unit {0}
+IsReturn other = ⊥
+
+-- the first instruction, if there is one, is a return
+abbrev pub BeginsWithReturn : List Mi → Type 0
+BeginsWithReturn [] = Unit {0}
+BeginsWithReturn (mi ∷ insts) = IsReturn mi.op
+
+-- after each end of a frame with variables comes a return
+abbrev pub HasReturns : List Mi → Type 0
+HasReturns [] = Unit {0}
+HasReturns (mi ∷ insts) = (IsLeave mi.op → BeginsWithReturn insts) × HasReturns insts
+
+-- ---- code
+
+-- the code of a function: the machine runs each instruction
+pub record IsBuiltFunctionCode (function : CodeFunction) : Type 0 where
+  pub built : All IsBuilt function.insts
+  pub returns : HasReturns function.insts
 
 abbrev pub IsBuiltCode : List CodeFunction → Type 0
-IsBuiltCode code = All (λ (function : CodeFunction). All IsBuilt function.insts) code
+IsBuiltCode code = All IsBuiltFunctionCode code
 
 -- the setting has this code, and as many frames a task as the program's map says
 pub record HasCode (setting : MachineSetting) (functions : List CodeFunction) : Type 0 where
@@ -83,6 +124,7 @@ IsPlainOp (machine.Select to cond a b) = Unit {0}
 IsPlainOp (machine.Freeze to a) = Unit {0}
 IsPlainOp (machine.Part to pair part) = Unit {0}
 IsPlainOp machine.Nop = Unit {0}
+IsPlainOp (machine.Alloca to variable) = Unit {0}
 IsPlainOp (machine.Gep to base indices) = Unit {0}
 IsPlainOp (machine.Load width to at) = Unit {0}
 IsPlainOp (machine.Store width value at) = Unit {0}

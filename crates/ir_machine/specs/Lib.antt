@@ -11,6 +11,7 @@ pub mod LibraryCalls
 pub mod MachineStates
 pub mod MemorySteps
 pub mod Operands
+pub mod Programs
 pub mod ReachableWorlds
 pub mod RunStates
 pub mod Runs

@@ -1,5 +1,5 @@
 -- What the machine has between two steps, the world that it shows, and what a step returns. This project's choice.
-use Rattle.std.specs.Prelude.{◌≡◌, ℕ, ◌≤◌, false, List, [], ◌∷◌, length, Result, Ok, Err, Bool, true}
+use Rattle.std.specs.Prelude.{◌≡◌, ℕ, ◌+◌, ◌≤◌, false, List, [], ◌∷◌, length, Result, Ok, Err, Bool, true}
 use Rattle.std.specs.Int.{w32, cast_signed}
 use Rattle.hw_base.specs.declared.out_of_memory.OutOfMemory.{OutOfMemory}
 use Rattle.hw_tags.specs.TaskRuns.{Next, Last, NoStep}
@@ -7,20 +7,30 @@ use Rattle.mi_code.specs.declared.code_functions.CodeFunction.{CodeFunction}
 use Rattle.ir_machine.specs.declared.stepped.Stepped.{Stepped}
 use Rattle.ir_machine.specs.declared.stepped.Stepped.TheVariants as stepped
 use Rattle.ir_machine.specs.Built.{IsBuiltCode}
-use Rattle.ir_machine.specs.RunStates.{RunState}
-use Rattle.ir_machine.specs.Start.{machine_start}
+use Rattle.ir_machine.specs.Programs.{AreSmall, HasProgram}
+use Rattle.ir_machine.specs.RunStates.{RunState, AreNext}
+use Rattle.ir_machine.specs.Start.{first_world, machine_start, shared_at_start}
+use Rattle.ir_machine.specs.declared.program.Program.{Program}
+use Rattle.hw_base.specs.declared.endings.Full.{Full}
+use Rattle.hw_tags.specs.declared.words.Words.{Words}
 use Rattle.hw_base.specs.AddressMap.{program_map}
 use Rattle.hw_tags.specs.Word.{word}
 use Rattle.hw_tags.specs.declared.options.Options.{Options}
 use Rattle.ir_core.specs.declared.ir_module.Module.{Module}
 use Rattle.ir_machine.specs.State.{MachineSetting, MachineWorld, MachineWorldStep, MachineEnding, Exited, Trapped, Reported, IsFull}
 
--- the code, the run, how many steps were made, and whether memory has run out
+-- the code, the run, the words that are left, how many steps were made, and whether memory has run out
 pub record MachineState : Type 0 where
-  pub code : List CodeFunction
+  pub program : Program
   pub run : RunState
+  pub words : Words
   pub steps : ℕ
   pub lost : Bool
+
+-- a machine of a setting: it has its code and its next words
+pub record IsMachineOf (setting : MachineSetting) (m : MachineState) : Type 0 where
+  pub program : HasProgram setting m.program
+  pub words : AreNext setting m.words m.run.seen.shared.drawn
 
 -- the world between two steps, which has one task
 abbrev pub world_of : MachineState → MachineWorld
@@ -32,10 +42,15 @@ world_of m =
       turns = 0;
     }
 
--- a machine that can make a step: the code is one that it runs, and there is a chain a step at most
+-- a machine that can make a step: the code is one that it runs, the variables are small, and there is a chain a step, and a birth and
+-- a word a step, beside those of the globals and of `main`, at most
 pub record IsReady (m : MachineState) : Type 0 where
-  pub built : IsBuiltCode m.code
+  pub built : IsBuiltCode m.program.code
+  pub small : AreSmall m.program
   pub chains : m.lost ≡ false → length m.run.seen.shared.chains ≤ m.steps
+  pub births : m.lost ≡ false → m.run.seen.shared.births ≤ m.steps + 2
+  pub drawn : m.lost ≡ false → m.run.seen.shared.drawn ≤ m.steps + 2
+  pub stack : m.lost ≡ false → 1 ≤ length m.run.seen.shared.stacks.tasks
 
 -- how the run ended, and what the step returned
 abbrev pub IsEnd : MachineEnding → Stepped → Type 0
@@ -64,11 +79,18 @@ pub record IsSettingOf (setting : MachineSetting) (program : Module) (functions 
   pub code_is : setting.code ≡ functions
   pub places_are : setting.places ≡ program_map options.heap
   pub ring_is : setting.ring ≡ options.ring
-  pub word_is : setting.word 0 ≡ word options.tags 0
+  pub words_are : (k : ℕ) → setting.word k ≡ word options.tags k
 
 -- the machine before the first step of a run
 pub record IsStarted (program : Module) (functions : List CodeFunction) (options : Options) (m : MachineState) : Type 0 where
-  pub code : m.code ≡ functions
+  pub code : m.program.code ≡ functions
   pub steps : m.steps ≡ 0
   pub lost : m.lost ≡ false
+  pub machine : (setting : MachineSetting) → IsSettingOf setting program functions options → IsMachineOf setting m
   pub world : (setting : MachineSetting) → IsSettingOf setting program functions options → machine_start setting ≡ Next (world_of m) []
+
+-- there is no room for the variables of `main`
+abbrev pub IsFullAtStart : Module → List CodeFunction → Options → Full → Type 0
+IsFullAtStart program functions options full =
+    (setting : MachineSetting) → IsSettingOf setting program functions options
+    → machine_start setting ≡ Last (first_world (shared_at_start setting) []) [] (IsFull full)

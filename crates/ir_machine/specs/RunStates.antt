@@ -1,14 +1,18 @@
 -- What a run has in hand while a step is made: what the task's step sees, the bytes that it printed, and how the run ended if it
 -- has. The code's results are single words; what they mean is read from this state. This project's choice.
-use Rattle.std.specs.Prelude.{◌≡◌, ℕ, List, [], ◌∷◌, false}
+use Rattle.std.specs.Prelude.{◌≡◌, ℕ, ◌+◌, ◌-◌, ◌^◌, ◌<◌, ◌≤◌, List, [], ◌∷◌, false, length}
 use Rattle.hw_base.specs.AddressMap.{program_map}
 use Rattle.hw_tags.specs.InputState.{no_input_taken}
 use Rattle.hw_tags.specs.TaskRuns.{Goes, Ends}
+use Rattle.hw_tags.specs.Words.{coming}
+use Rattle.hw_tags.specs.declared.words.Words.{Words}
 use Rattle.stack_tags.specs.Frames as stacks
+use Rattle.stack_tags.specs.FrameSteps.{left}
 use Rattle.tag_alloc.specs.HeapBlocks as blocks
 use Rattle.global_tags.specs.GlobalBytes.{loaded}
-use Rattle.global_tags.specs.GlobalPlaces.{descriptors_of}
+use Rattle.global_tags.specs.GlobalPlaces.{descriptors_of, global_words}
 use Rattle.global_tags.specs.declared.descriptor.Descriptor.{Descriptor}
+use Rattle.hw_base.specs.declared.pointers.Site.{Site}
 use Rattle.tbi_memory.specs.AddressSpace.{AddressSpace}
 use Rattle.hw_tags.specs.Word.{word}
 use Rattle.hw_tags.specs.declared.options.Options.{Options}
@@ -18,12 +22,13 @@ use Rattle.mi_code.specs.declared.edges.Move.{Move}
 use Rattle.ir_tasks.specs.Frames.{Frame}
 use Rattle.ir_tasks.specs.CallStacks.{Calls}
 use Rattle.ir_machine.specs.declared.progress.Ending.{Ending}
-use Rattle.ir_machine.specs.declared.progress.Ending.TheVariants.{Exit, Trap, Report}
+use Rattle.ir_machine.specs.declared.progress.Ending.TheVariants.{Exit, Trap, Report, Full}
 use Rattle.ir_machine.specs.declared.progress.Progress.{Progress}
 use Rattle.ir_machine.specs.declared.progress.Progress.TheVariants.{Ran, Printed, Returned, Ended, NoMemory}
 use Rattle.ir_machine.specs.Start.{global_births}
-use Rattle.ir_machine.specs.State.{MachineShared, MachineSeen, MachineOutcome, MachineEnding, Exited, Trapped, Reported}
-use Rattle.ir_machine.specs.StepEnds.{advanced}
+use Rattle.ir_machine.specs.State.{MachineSetting, MachineShared, MachineSeen, MachineOutcome, MachineEnding, Exited, Trapped, Reported, IsFull}
+use Rattle.ir_machine.specs.CallSteps.{stacks_set}
+use Rattle.ir_machine.specs.StepEnds.{advanced, chain_at, chain_known}
 
 pub record RunState : Type 0 where
   pub seen : MachineSeen
@@ -35,28 +40,30 @@ abbrev pub ending_of : Ending → MachineEnding
 ending_of (Exit value) = Exited value
 ending_of (Trap trap task chain) = Trapped trap task chain
 ending_of (Report raw) = Reported raw
+ending_of (Full full) = IsFull full
 
--- what all tasks share while there is no frame with variables and no block: memory and the globals in it, so many births and
--- words drawn, and these chains, for a heap of so many bytes
-abbrev pub shared_of : AddressSpace → List Descriptor → (births heap ring : ℕ) → List ChainEntry → MachineShared
-shared_of memory globals births heap ring chains =
+-- what all tasks share while there is no block: memory and the globals in it, the frames with variables, so many births and words
+-- drawn, and these chains, for a heap of so many bytes
+abbrev pub shared_of : AddressSpace → List Descriptor → stacks.StacksState → (births drawn heap ring : ℕ) → List ChainEntry → MachineShared
+shared_of memory globals frames births drawn heap ring chains =
     record {
       memory = memory;
       globals = globals;
       heap = blocks.with_task (blocks.heap_at_start (program_map heap) ring);
-      stacks = stacks.with_task (stacks.stacks_at_start (program_map heap) ring);
+      stacks = frames;
       chains = chains;
       births = births;
-      drawn = births;
+      drawn = drawn;
       input = no_input_taken;
     }
 
--- what they share before the first step of a module under options
+-- what they share before `main` is entered, in a run of a module under options
 abbrev pub loaded_module : Module → Options → MachineShared
 loaded_module m options =
     shared_of (loaded (program_map options.heap) m.layouts m.globals (word options.tags 0))
-    (descriptors_of (program_map options.heap) m.layouts m.globals (word options.tags 0)) (global_births m.globals) options.heap
-    options.ring []
+    (descriptors_of (program_map options.heap) m.layouts m.globals (word options.tags 0))
+    (stacks.with_task (stacks.stacks_at_start (program_map options.heap) options.ring)) (global_births m.globals) (global_words m.globals)
+    options.heap options.ring []
 
 -- what a step of the only task sees
 abbrev pub only_task : MachineShared → Calls → (step : ℕ) → MachineSeen
@@ -110,3 +117,40 @@ first_state shared frame =
 -- a check that passed: the state is the same, at the next place
 abbrev pub passed : RunState → RunState
 passed v = record v { seen = advanced v.seen }
+
+-- a frame with variables has ended at a site: the state is at the next place
+abbrev pub left_at : MachineSeen → Site → MachineSeen
+left_at s site = advanced (stacks_set (chain_known s site) (left s.shared.stacks s.shared.memory s.task (chain_at s site)))
+
+-- ---- what a step takes
+
+-- the words that are left are those of the setting after so many
+abbrev pub AreNext : MachineSetting → Words → (drawn : ℕ) → Type 0
+AreNext setting words drawn = (k : ℕ) → coming words k ≡ setting.word (drawn + k)
+
+-- there is a stack, and room for one birth and one word more
+pub record HasRoom (shared : MachineShared) : Type 0 where
+  pub births : shared.births < 2 ^ 32 - 1
+  pub drawn : shared.drawn < 2 ^ 64 - 1
+  pub stack : 1 ≤ length shared.stacks.tasks
+
+-- what a step has added, by what is shared before and after it: one chain at most, no birth, and no word was drawn
+pub record AddsChain (before after : MachineShared) : Type 0 where
+  pub chains : length after.chains ≤ length before.chains + 1
+  pub births : after.births ≡ before.births
+  pub drawn : after.drawn ≡ before.drawn
+  pub stacks_are : length after.stacks.tasks ≡ length before.stacks.tasks
+
+-- at most one word was drawn
+pub record HasDrawn (words next : Words) (before after : ℕ) : Type 0 where
+  pub count : ℕ
+  pub few : count ≤ 1
+  pub drawn : after ≡ before + count
+  pub rest : (k : ℕ) → coming next k ≡ coming words (k + count)
+
+-- at most one chain and one birth were added, and one word was drawn
+pub record GrowsByOne (words next : Words) (before after : MachineShared) : Type 0 where
+  pub chains : length after.chains ≤ length before.chains + 1
+  pub births : after.births ≤ before.births + 1
+  pub drawn : HasDrawn words next before.drawn after.drawn
+  pub stacks_are : length after.stacks.tasks ≡ length before.stacks.tasks

@@ -1,27 +1,29 @@
-ghost use Rattle.std.specs.Prelude.{◌≡◌, ℕ, ◌+◌, ◌<◌, ◌≤◌, false, true, [], length, slice_get, IsErr, IsOk, IfOk, List};
+ghost use Rattle.std.specs.Prelude.{◌≡◌, ℕ, ◌+◌, ◌^◌, ◌<◌, ◌≤◌, All, false, true, [], length, slice_get, Err, IsErr, IsOk, IfOk, List};
 ghost use Rattle.ir_machine.specs.RunStates.{ending_of};
 ghost use Rattle.ir_machine.specs.MachineStates.{IsEnd};
 ghost use Rattle.hw_base.specs.declared.numbers.TheConstants.{MOST_STEPS};
 
+use crate::StartError;
 use crate::calls::registers_of;
+use crate::program::Program;
 use crate::progress::{Ending, Progress};
 use crate::run::Run;
 use crate::stepped::Stepped;
 use crate::turn::turn;
 use dbg_sites::Chains;
 use hw_base::OutOfMemory;
-use hw_tags::Options;
+use hw_tags::{Options, Words};
 use ir_core::Module;
 use mi_code::Code;
 use std::alloc::Global;
 use std::marker::Model;
 
-/// A run of instrumented code, step by step. The instructions that it runs are not yet those of frames with variables, of blocks and
-/// of tasks.
+/// A run of instrumented code, step by step. The instructions that it runs are not yet those of blocks and of tasks.
 #[derive(Drop)]
 pub struct Machine {
-    code: Code,
+    program: Program,
     run: Run,
+    words: Words,
     numbers: Vec<u128>,
     steps: u64,
     lost: bool,
@@ -32,9 +34,9 @@ impl Model for Machine {
 
     ghost Value = { MachineState };
 
-    ghost view = { λ m. record { code = m.code; run = m.run; steps = m.steps; lost = m.lost } };
+    ghost view = { λ m. record { program = m.program; run = m.run; words = m.words; steps = m.steps; lost = m.lost } };
 
-    ghost invariant = { λ m. IsReady (record { code = m.code; run = m.run; steps = m.steps; lost = m.lost }) };
+    ghost invariant = { λ m. IsReady (record { program = m.program; run = m.run; words = m.words; steps = m.steps; lost = m.lost }) };
 }
 
 /// The end of a run, as a step returns it.
@@ -46,6 +48,7 @@ fn ended(ending: Ending) -> Stepped
         Ending::Exit(value) => Stepped::Exit(value.cast_signed()),
         Ending::Trap { trap, task, chain } => Stepped::Trap { trap, task, chain },
         Ending::Report(raw) => Stepped::Mismatch(raw),
+        Ending::Full(full) => Stepped::Full(full),
     }
 }
 
@@ -53,28 +56,40 @@ impl Machine {
     ghost use Rattle.hw_tags.specs.TaskRuns.{world_step, Next};
     ghost use Rattle.global_tags.specs.Loading.{CanBeLoaded};
     ghost use Rattle.ir_machine.specs.State.{MachineSetting, MachineWorld};
-    ghost use Rattle.ir_machine.specs.Built.{IsBuiltCode, IsPlainAt, HasCode};
+    ghost use Rattle.hw_base.specs.declared.endings.Full.{Full as NoRoom};
+    ghost use Rattle.ir_core.specs.declared.ir_module.Function.{Function};
+    ghost use Rattle.ir_machine.specs.declared.start_error.StartError.{StartError as StartErrorOf};
+    ghost use Rattle.ir_machine.specs.Built.{IsBuiltCode, IsPlainAt};
     ghost use Rattle.ir_machine.specs.Runs.{step_in};
-    ghost use Rattle.ir_machine.specs.MachineStates.{IsStep, IsStarted, world_of};
+    ghost use Rattle.ir_machine.specs.MachineStates.{IsFullAtStart, IsMachineOf, IsStep, IsStarted, world_of};
 
     /// The machine before the first step: the module's globals are in memory, and `main` is entered. The code is that of its
-    /// functions and has only instructions that the machine runs, and `main` is one of them. The only error is that memory ran out.
+    /// functions and has only instructions that the machine runs, and `main` is one of them. It fails if the variables of `main`
+    /// don't fit into its stack, or if memory runs out.
     pub fn new(
         alloc: Global,
         program: &Module,
         code: Code,
         options: &Options,
-    ) -> Result<Machine, OutOfMemory>
+    ) -> Result<Machine, StartError>
         requires built { IsBuiltCode code }
         requires globals { CanBeLoaded program.now }
+        requires variables { All (λ (f : Function). All (λ size. size < 2 ^ 64) f.allocas) program.now.functions }
         requires main { program.now.main < length code }
-        ensures { IfOk result (λ m. IsStarted program.now code options.now m) }
+        ensures started { IfOk result (λ m. IsStarted program.now code options.now m) }
+        ensures full { (full : NoRoom) → result ≡ Err (StartErrorOf.Full full) → IsFullAtStart program.now code options.now full }
     {
-        let registers = registers_of(&code, program.main);
-        let run = Run::new(alloc, program, program.main, registers, options)?;
+        let main = program.main;
+        let registers = registers_of(&code, main);
+        let instrumented = Program::new(alloc, program, code)?;
+        let mut words = Words::new(alloc, &options.tags)?;
+        let mut run = Run::new(alloc, program, &mut words, main, registers, options)?;
+        let place = run.enter_if(&instrumented, &mut words, main, 0)?;
+        run.go_to(place);
         Ok(Machine {
-            code,
+            program: instrumented,
             run,
+            words,
             numbers: Vec::new(alloc),
             steps: 0,
             lost: false,
@@ -108,22 +123,29 @@ impl Machine {
     #[inline(always)]
     pub fn step(&mut self) -> Result<Stepped, OutOfMemory>
         requires { self.old.steps < MOST_STEPS }
-        ensures step { (setting : MachineSetting) (turns : ℕ → ℕ) → HasCode setting self.old.code → self.old.lost ≡ false
+        ensures step { (setting : MachineSetting) (turns : ℕ → ℕ) → IsMachineOf setting self.old → self.old.lost ≡ false
             → IsStep (world_step (step_in setting) [] turns (world_of self.old)) result self.new }
-        ensures plain { (setting : MachineSetting) (turns : ℕ → ℕ) (w : MachineWorld) (printed : List ℕ) → HasCode setting self.old.code
-            → self.old.lost ≡ false → IsPlainAt self.old.code self.old.run.seen.frame
+        ensures same_setting { (setting : MachineSetting) → IsMachineOf setting self.old → self.old.lost ≡ false
+            → IfOk result (λ found. IsMachineOf setting self.new) }
+        ensures plain { (setting : MachineSetting) (turns : ℕ → ℕ) (w : MachineWorld) (printed : List ℕ) → IsMachineOf setting self.old
+            → self.old.lost ≡ false → IsPlainAt self.old.program.code self.old.run.seen.frame
             → world_step (step_in setting) [] turns (world_of self.old) ≡ Next w printed → IsOk result }
         ensures lost { self.old.lost ≡ true → IsErr result }
         ensures count { self.old.lost ≡ false → self.new.steps ≡ self.old.steps + 1 }
         ensures kept { IfOk result (λ found. self.new.lost ≡ self.old.lost) }
-        ensures code { self.new.code ≡ self.old.code }
+        ensures program { self.new.program ≡ self.old.program }
     {
         if self.lost {
             return Err(OutOfMemory);
         }
         self.steps += 1;
         self.run.begin_step(self.steps);
-        match turn(&self.code, &mut self.run, &mut self.numbers) {
+        match turn(
+            &self.program,
+            &mut self.run,
+            &mut self.words,
+            &mut self.numbers,
+        ) {
             Progress::Ran => Ok(Stepped::Ran),
             Progress::Printed => Ok(Stepped::Wrote(self.run.printed_count())),
             Progress::Returned => Ok(ended(self.run.ending())),

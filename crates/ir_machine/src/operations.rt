@@ -1,7 +1,6 @@
 ghost use Rattle.std.specs.Prelude.{◌≡◌, ℕ, ◌+◌, ◌-◌, ◌^◌, ◌<◌, length, Option};
 ghost use Rattle.hw_base.specs.declared.endings.Input.{Input};
-ghost use Rattle.ir_machine.specs.Built.{IsBuiltOp, IsBuiltFunction, IsNoCheck, IsBuiltCode, IsPlainOp, HasCode};
-ghost use Rattle.ir_machine.specs.CallSteps.{code_at};
+ghost use Rattle.ir_machine.specs.Built.{IsBuiltOp, IsBuiltFunction, IsOrdinary, IsPlainOp, HasCode};
 ghost use Rattle.ir_machine.specs.InstructionStep.{operation_step};
 ghost use Rattle.ir_machine.specs.LibraryCalls.{library_step};
 ghost use Rattle.ir_machine.specs.RunStates.{IsOutcome, IsPlainOutcome};
@@ -37,7 +36,7 @@ fn library(
     }
 }
 
-/// The step of an instruction at a site, which is no check.
+/// The step of an instruction at a site, which is no check, no call and no end of a frame with variables.
 #[tactic(auto, using(crate::proofs::Outcomes::from_plain))]
 pub fn operation(
     code: &Code,
@@ -47,8 +46,7 @@ pub fn operation(
     op: &MiOp,
 ) -> Progress
     requires built { IsBuiltOp op.now }
-    requires no_check { IsNoCheck op.now }
-    requires all { IsBuiltCode code.now }
+    requires ordinary { IsOrdinary op.now }
     requires task { run.old.seen.task ≡ 0 }
     requires place { run.old.seen.frame.place + 1 < 2 ^ 64 }
     requires chains { length run.old.seen.shared.chains < 2 ^ 32 - 1 }
@@ -94,6 +92,7 @@ pub fn operation(
         } => run.overflow(*op, *width, *to, a, b),
         MiOp::Select { to, cond, a, b } => run.select(*to, cond, a, b),
         MiOp::Freeze { to, a } => run.freeze(*to, a),
+        MiOp::Alloca { to, variable } => run.alloca(*to, *variable),
         MiOp::Gep { to, base, indices } => run.gep(*to, base, indices),
         MiOp::Load { width, to, at } => run.load(site, *width, *to, at),
         MiOp::Store { width, value, at } => run.store(site, *width, value, at),
@@ -107,7 +106,6 @@ pub fn operation(
             other,
             cases,
         } => run.switch(*width, on, other, cases, numbers),
-        MiOp::Call { func, args, .. } => run.call(code, site, *func, args, numbers),
         MiOp::CallLib { lib, to, args, .. } => library(run, site, *lib, *to, args),
         MiOp::Ret { value } => run.ret(code, value),
         MiOp::Unreachable => run.unreachable(site),

@@ -1,4 +1,7 @@
 ghost use Rattle.std.specs.Prelude.{◌≡◌, ℕ, ◌+◌, ◌-◌, ◌^◌, ◌<◌, ◌≤◌, length, slice_get, [], ◌∷◌, OnOk, IfOk, true, false, unwrap_or};
+ghost use Rattle.hw_tags.specs.Word.{word, IsNotEmpty};
+ghost use Rattle.hw_tags.specs.Words.{AreWordsFrom, coming};
+ghost use Rattle.global_tags.specs.GlobalPlaces.{global_words};
 ghost use Rattle.ir_machine.specs.Start.{global_births};
 
 use crate::found::{Found, Raw};
@@ -11,19 +14,23 @@ use ir_arith::wrap;
 use ir_core::Module;
 use ir_tasks::CallStack;
 use mi_code::MiOperand;
+use stack_tags::Stacks;
 use std::alloc::Global;
 use std::marker::Model;
 use tbi_memory::{MemFault, Memory, Mismatch};
 
-/// What a run has in hand: the frames of its task, memory and where the globals lie in it, the chains of sites, the number of
-/// the step, what the last step printed, and how the run ended if it has. `births` is 1 if there are globals, and else 0.
+/// What a run has in hand: the frames of its task, memory and where the globals lie in it, the frames with variables, the numbers
+/// of births and of drawn words, the chains of sites, the number of the step, what the last step printed, and how the run ended if
+/// it has.
 #[derive(Drop)]
 pub struct Run {
     pub(crate) calls: CallStack,
     pub(crate) memory: Memory,
     globals: Descriptors,
-    births: u32,
-    chains: Chains,
+    pub(crate) stacks: Stacks,
+    pub(crate) births: u32,
+    pub(crate) drawn: u64,
+    pub(crate) chains: Chains,
     step: u64,
     heap: u64,
     ring: u32,
@@ -37,7 +44,7 @@ impl Model for Run {
     ghost Value = { RunState };
 
     ghost view = { λ r. record {
-      seen = only_task (shared_of r.memory r.globals r.births r.heap r.ring r.chains) r.calls r.step;
+      seen = only_task (shared_of r.memory r.globals r.stacks r.births r.drawn r.heap r.ring r.chains) r.calls r.step;
       printed = r.printed.items;
       ending = ending_of r.ending;
     } };
@@ -60,26 +67,33 @@ impl Run {
     ghost use Rattle.ir_tasks.specs.CallStacks.{fresh_frame};
     ghost use Rattle.ir_machine.specs.RunStates.{IsOutcome, IsPlainOutcome, with_frame, ending_of, first_state, loaded_module};
 
-    /// A run of a module that begins with a function, whose frame has so many registers: its globals are in memory. No step was
-    /// made.
+    /// A run of a module that begins with a function, whose frame has so many registers: its globals are in memory, for which
+    /// a word was drawn if there are any. No frame with variables was entered, and no step was made.
     pub fn new(
         alloc: Global,
         program: &Module,
+        words: &mut Words,
         func: u32,
         registers: u32,
         options: &Options,
     ) -> Result<Run, OutOfMemory>
-        requires { CanBeLoaded program.now }
-        ensures { IfOk result (λ r. r ≡ first_state (loaded_module program.now options.now) (fresh_frame func registers 0 0)) }
+        requires globals { CanBeLoaded program.now }
+        requires words { AreWordsFrom options.now.tags 0 words.old }
+        ensures state { IfOk result (λ r. r ≡ first_state (loaded_module program.now options.now) (fresh_frame func registers 0 0)) }
+        ensures words { OnOk result ((k : ℕ) → coming words.new k ≡ word options.now.tags (global_words program.now.globals + k)) }
     {
-        let mut words = Words::new(alloc, &options.tags)?;
         let mut memory = Memory::new(alloc, &layout(program, options.heap))?;
-        let globals = load(alloc, program, &mut memory, &mut words)?;
+        let globals = load(alloc, program, &mut memory, words)?;
+        let mut stacks = Stacks::new(alloc, options.ring);
+        stacks.add_task()?;
+        let births = first_births(program);
         Ok(Run {
             calls: CallStack::new(alloc, func, registers, 0, 0)?,
             memory,
             globals,
-            births: first_births(program),
+            stacks,
+            births,
+            drawn: births as u64,
             chains: Chains::new(alloc),
             step: 0,
             heap: options.heap,
@@ -188,7 +202,8 @@ impl Run {
 
     /// The run ends so.
     pub fn end(&mut self, ending: Ending) -> Progress
-        ensures { IsPlainOutcome (ends self.old.seen (ending_of ending)) result self.new }
+        ensures outcome { IsPlainOutcome (ends self.old.seen (ending_of ending)) result self.new }
+        ensures seen { self.new.seen ≡ self.old.seen }
     {
         self.ending = ending;
         Progress::Ended
@@ -252,19 +267,32 @@ impl Run {
         self.calls.place()
     }
 
-    /// A new frame of a function runs, at its first place, with the chain of a call at a site.
-    pub fn push_frame(&mut self, site: Site, func: u32, registers: u32) -> Result<(), OutOfMemory>
-        requires place { self.old.seen.frame.place + 1 < 2 ^ 64 }
-        requires chains { length self.old.seen.shared.chains < 2 ^ 32 - 1 }
+    /// The chain of a site of the frame that runs, which the table has then.
+    pub fn push_chain(&mut self, site: Site) -> Result<u32, OutOfMemory>
+        requires { length self.old.seen.shared.chains < 2 ^ 32 - 1 }
+        ensures state { OnOk result (self.new ≡ record self.old { seen = chain_known self.old.seen site }) }
+        ensures chain { IfOk result (λ chain. chain ≡ chain_at self.old.seen site) }
+    {
+        self.chains.push(self.calls.chain(), site)
+    }
+
+    /// A new frame of a function runs, at a place of its code, with a chain.
+    pub fn push_frame(
+        &mut self,
+        func: u32,
+        registers: u32,
+        place: usize,
+        chain: u32,
+    ) -> Result<(), OutOfMemory>
+        requires { self.old.seen.frame.place + 1 < 2 ^ 64 }
         ensures { OnOk result (self.new ≡ record self.old {
-          seen = record (chain_known self.old.seen site) {
-            frame = fresh_frame func registers 0 (chain_at self.old.seen site);
+          seen = record self.old.seen {
+            frame = fresh_frame func registers place chain;
             callers = self.old.seen.frame ∷ self.old.seen.callers;
           };
         }) }
     {
-        let chain = self.chains.push(self.calls.chain(), site)?;
-        self.calls.call(func, registers, 0, chain)
+        self.calls.call(func, registers, place, chain)
     }
 
     /// The frame that runs ends, and its caller runs. The result is false if there is none: then nothing changes.

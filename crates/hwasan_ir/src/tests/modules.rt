@@ -226,11 +226,7 @@ fn what_was_printed_by_then_is_shown(rt: HostRuntime) -> Result<(), Fail> {
 }
 
 /// Modules with a part that the machine doesn't run, and the line that names its place.
-const UNBUILT: [(&str, &str); 6] = [
-    (
-        "define i32 @main() { %a = alloca [262144 x i8] ret i32 0 }",
-        "refused: 3 Unsupported at 1:22\n",
-    ),
+const UNBUILT: [(&str, &str); 5] = [
     (
         "@x = global i32 1\ndefine i32 @main() {\n  %a = load i32, ptr @x\n  %b = load i32, ptr @x, align 2\n  ret i32 0\n}\n",
         "refused: 3 Unsupported at 4:3\n",

@@ -1,8 +1,7 @@
 use Rattle.std.proofs.Common.{◌≡◌, ℕ, ◌+◌, ◌≤◌, false, []}
 use Rattle.hw_base.specs.declared.numbers.TheConstants.{MOST_STEPS}
 use Rattle.hw_tags.specs.TaskRuns.{run_from}
-use Rattle.ir_machine.specs.Built.{HasCode}
-use Rattle.ir_machine.specs.MachineStates.{world_of}
+use Rattle.ir_machine.specs.MachineStates.{IsMachineOf, world_of}
 use Rattle.ir_machine.specs.Runs.{step_in}
 use Rattle.ir_machine.specs.State.{MachineSetting}
 use Rattle.hw_run.proofs.RunSteps.{IsContinued}
@@ -10,10 +9,10 @@ use Rattle.hw_run.proofs.steps.run_steps.Given as goal
 
 abbrev pub invariant-loop-left : goal.invariant-loop-left
 invariant-loop-left l = record {
-  code : l.machine.code ≡ l.fn.machine.code;
+  machine : (setting : MachineSetting) → IsMachineOf setting l.fn.machine → IsMachineOf setting l.machine;
   held : l.machine.lost ≡ false;
   within : l.machine.steps + l.left ≤ MOST_STEPS;
-  run : (setting : MachineSetting) (turns : ℕ → ℕ) → HasCode setting l.fn.machine.code
+  run : (setting : MachineSetting) (turns : ℕ → ℕ) → IsMachineOf setting l.fn.machine
       → IsContinued (run_from (step_in setting) [] turns l.fn.bound (world_of l.fn.machine)) (run_from (step_in setting) [] turns l.left (world_of l.machine)) l.output;
 }
 
