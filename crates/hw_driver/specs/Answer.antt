@@ -68,13 +68,18 @@ steps_or (Some steps) = steps
 abbrev pub bound_under : Line → ℕ
 bound_under l = steps_or l.given.steps
 
+-- how many ended frames and freed blocks a task remembers, by default the constant
+abbrev pub ring_or : Option ℕ → ℕ
+ring_or None = RING
+ring_or (Some ring) = ring
+
 -- the options of a run under a command
 pub record IsOptionsOf (l : Line) (options : Options) : Type 0 where
   pub tags : options.tags ≡ tag_words l.given.tags
   pub turns : options.turns ≡ Seed 1
   pub steps : options.steps ≡ bound_under l
   pub heap : options.heap ≡ HEAP
-  pub ring : options.ring ≡ RING
+  pub ring : options.ring ≡ ring_or l.given.ring
 
 -- ---- decisions
 

@@ -4,14 +4,15 @@ use Rattle.std.specs.Char.{is_ascii_digit}
 use Rattle.std.specs.List.{starts_with, list_all, slice_split}
 use Rattle.std.specs.Str.{bytes_eq}
 use Rattle.std.specs.Str.Parse.{digits_value}
-use Rattle.hw_base.specs.declared.numbers.TheConstants.{MOST_STEPS, MOST_WORDS}
+use Rattle.hw_base.specs.declared.numbers.TheConstants.{MOST_RING, MOST_STEPS, MOST_WORDS}
 use Rattle.hw_tags.specs.declared.words_spec.WordsSpec.{WordsSpec}
 use Rattle.hw_tags.specs.declared.words_spec.WordsSpec.TheVariants.{Cycle, Seed}
 
--- the options that are given: the tag words, and a bound on the steps
+-- the options that are given: the tag words, a bound on the steps, and how many ended frames and freed blocks a task remembers
 pub record Given : Type 0 where
   pub tags : Option WordsSpec
   pub steps : Option ℕ
+  pub ring : Option ℕ
 
 -- a command: the FILE word, and the options that are given
 pub record Line : Type 0 where
@@ -32,17 +33,23 @@ is_number text = nat_lt 0 (length text) && list_all is_ascii_digit text
 unfoldable pub number_of : List ℕ → Option ℕ
 number_of text = if is_number text && nat_lt (digits_value 10 text) (2 ^ 64) then Some (digits_value 10 text) else None
 
--- a number of steps
+abbrev pub within : (ℕ → Bool) → Option ℕ → Option ℕ
+within is_one None = None
+within is_one (Some n) = if is_one n then Some n else None
+
+-- a bound on the steps: a number from 1 on, to the greatest
 abbrev pub is_bound : ℕ → Bool
 is_bound n = nat_le 1 n && nat_le n MOST_STEPS
 
-abbrev pub bounded : Option ℕ → Option ℕ
-bounded None = None
-bounded (Some n) = if is_bound n then Some n else None
-
--- a bound on the steps: a number from 1 on, to the greatest
 abbrev pub step_bound : List ℕ → Option ℕ
-step_bound text = bounded (number_of text)
+step_bound text = within is_bound (number_of text)
+
+-- a number of ended frames, and of freed blocks: from 1 on, to the greatest
+abbrev pub is_ring : ℕ → Bool
+is_ring n = nat_le 1 n && nat_le n MOST_RING
+
+abbrev pub ring_size : List ℕ → Option ℕ
+ring_size text = within is_ring (number_of text)
 
 -- ---- tag words
 
@@ -80,7 +87,7 @@ once None value = value
 once (Some other) value = None
 
 abbrev pub with_tags : Given → WordsSpec → Given
-with_tags given words = record { tags = Some words; steps = given.steps }
+with_tags given words = record given { tags = Some words }
 
 -- an option that is given beside others, if it is one and isn't given yet: the tag words as a list, or by a seed
 abbrev pub add_tags : Given → List ℕ → Option Given
@@ -90,12 +97,21 @@ abbrev pub add_seed : Given → List ℕ → Option Given
 add_seed given value = option_map (with_tags given) (once given.tags (option_map Seed (number_of value)))
 
 abbrev pub add_steps : Given → List ℕ → Option Given
-add_steps given value = option_map (λ steps. record { tags = given.tags; steps = Some steps }) (once given.steps (step_bound value))
+add_steps given value = option_map (λ steps. record given { steps = Some steps }) (once given.steps (step_bound value))
+
+abbrev pub add_ring : Given → List ℕ → Option Given
+add_ring given value = option_map (λ ring. record given { ring = Some ring }) (once given.ring (ring_size value))
+
+-- an option of a run of the machine
+unfoldable pub add_limit : Given → (name value : List ℕ) → Option Given
+add_limit given name value =
+    if bytes_eq name (codes "--steps") then add_steps given value
+    else (if bytes_eq name (codes "--ring") then add_ring given value else None)
 
 unfoldable pub add_option : Given → (name value : List ℕ) → Option Given
 add_option given name value =
     if bytes_eq name (codes "--tags") then add_tags given value
-    else (if bytes_eq name (codes "--seed") then add_seed given value else (if bytes_eq name (codes "--steps") then add_steps given value else None))
+    else (if bytes_eq name (codes "--seed") then add_seed given value else add_limit given name value)
 
 -- options with their values, in any order
 abbrev pub options_after : List (List ℕ) → Option Given → Option Given
@@ -105,7 +121,7 @@ options_after (name ∷ []) (Some given) = None
 options_after (name ∷ value ∷ words) (Some given) = options_after words (add_option given name value)
 
 abbrev pub none_given : Given
-none_given = record { tags = None; steps = None }
+none_given = record { tags = None; steps = None; ring = None }
 
 -- run FILE, with options after it
 unfoldable pub line_with : (mode file : List ℕ) → Option Given → Option Line

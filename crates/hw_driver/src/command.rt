@@ -7,11 +7,12 @@ pub enum TagWords<'a> {
     Seed(u64),
 }
 
-/// The options that are given: the tag words, and a bound on the steps.
+/// The options that are given: the tag words, a bound on the steps, and how many ended frames and freed blocks a task remembers.
 #[derive(Clone, Copy)]
 pub struct Given<'a> {
     pub tags: Option<TagWords<'a>>,
     pub steps: Option<u64>,
+    pub ring: Option<u32>,
 }
 
 /// A command: the FILE word, and the options that are given.

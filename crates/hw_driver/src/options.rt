@@ -1,7 +1,7 @@
 ghost use Rattle.std.specs.Prelude.{◌≡◌, IfOk};
 ghost use Rattle.hw_tags.specs.Word.{IsWordsSpec};
 ghost use Rattle.hw_driver.specs.Given.{HasTags, tags_view};
-ghost use Rattle.hw_driver.specs.Answer.{tag_words, steps_or, IsOptionsOf};
+ghost use Rattle.hw_driver.specs.Answer.{tag_words, steps_or, ring_or, IsOptionsOf};
 ghost use Rattle.hw_driver.specs.LineView.{line_view};
 
 use crate::command::{Command, Given, TagWords};
@@ -16,7 +16,8 @@ pub const STEPS: u64 = 10_000_000;
 /// The size of the heap in bytes.
 pub const HEAP: u64 = 16_777_216;
 
-/// How many of its last ended frames, and of its last freed blocks, each task remembers.
+/// How many of its last ended frames, and of its last freed blocks, each task remembers, unless another
+/// number is given.
 pub const RING: u32 = 1_023;
 
 // The tag words: those that are given, or else those of seed 1.
@@ -42,17 +43,28 @@ fn steps_or(given: Given<'_>) -> u64
     }
 }
 
+/// How many ended frames and freed blocks a task remembers.
+fn ring_or(given: Given<'_>) -> u32
+    ensures value { result ≡ ring_or given.entry.ring }
+{
+    match given.ring {
+        None => RING,
+        Some(ring) => ring,
+    }
+}
+
 /// The options of a run under a command.
 pub fn options_of(alloc: Global, command: &Command<'_>) -> Result<Options, OutOfMemory>
     ensures { IfOk result (λ options. IsOptionsOf (line_view command.now) options) }
 {
     let tags = tag_words(alloc, command.given.tags)?;
     let steps = steps_or(command.given);
+    let ring = ring_or(command.given);
     Ok(Options {
         tags,
         turns: WordsSpec::Seed(1),
         steps,
         heap: HEAP,
-        ring: RING,
+        ring,
     })
 }

@@ -2,12 +2,12 @@ ghost use Rattle.std.specs.Prelude.{◌≡◌, ◌^◌, true, List, ℕ, Option,
 ghost use Rattle.std.specs.Char.{is_ascii_digit};
 ghost use Rattle.std.specs.List.{list_all};
 ghost use Rattle.std.specs.Option.{ForSome, is_some};
-ghost use Rattle.hw_driver.specs.Given.{HasBound, IsGiven};
-ghost use Rattle.hw_driver.specs.Line.{is_file, is_number, tag_word, tag_list, is_bound, number_of, step_bound, add_tags, add_seed, add_steps, add_option, options_after, none_given, line_with, line};
+ghost use Rattle.hw_driver.specs.Given.{HasBound, HasRing, IsGiven};
+ghost use Rattle.hw_driver.specs.Line.{is_file, is_number, tag_word, tag_list, is_bound, is_ring, number_of, step_bound, ring_size, add_tags, add_seed, add_steps, add_ring, add_limit, add_option, options_after, none_given, line_with, line};
 ghost use Rattle.hw_driver.specs.LineView.{given_view, line_view, texts};
 
 use crate::command::{Command, Given, TagWords};
-use hw_base::{ByteList, MOST_STEPS, MOST_WORDS, OutOfMemory};
+use hw_base::{ByteList, MOST_RING, MOST_STEPS, MOST_WORDS, OutOfMemory};
 use std::alloc::Global;
 
 fn is_file(name: &str) -> bool
@@ -65,6 +65,25 @@ fn step_bound(text: &str) -> Option<u64>
     if is_bound(steps) { Some(steps) } else { None }
 }
 
+fn is_ring(ring: u64) -> bool
+    ensures { result ≡ is_ring ring }
+{
+    1 <= ring && ring <= MOST_RING as u64
+}
+
+// A number of ended frames and freed blocks.
+fn ring_size(text: &str) -> Option<u32>
+    ensures value { result ≡ ring_size text.now }
+    ensures range { HasRing result }
+{
+    let ring = number_of(text)?;
+    if is_ring(ring) {
+        Some(ring as u32)
+    } else {
+        None
+    }
+}
+
 // ---- lists of tag words
 
 /// Whether a text is a list of tag words.
@@ -113,8 +132,7 @@ fn add_tags<'a>(given: Given<'a>, value: &'a str) -> Option<Given<'a>>
                 return None;
             }
             let tags = Some(TagWords::List(value));
-            let steps = given.steps;
-            Some(Given { tags, steps })
+            Some(Given { tags, ..given })
         }
         Some(_) => None,
     }
@@ -128,8 +146,7 @@ fn add_seed<'a>(given: Given<'a>, value: &str) -> Option<Given<'a>>
     match given.tags {
         None => {
             let tags = Some(TagWords::Seed(number_of(value)?));
-            let steps = given.steps;
-            Some(Given { tags, steps })
+            Some(Given { tags, ..given })
         }
         Some(_) => None,
     }
@@ -143,10 +160,39 @@ fn add_steps<'a>(given: Given<'a>, value: &str) -> Option<Given<'a>>
     match given.steps {
         None => {
             let steps = Some(step_bound(value)?);
-            let tags = given.tags;
-            Some(Given { tags, steps })
+            Some(Given { steps, ..given })
         }
         Some(_) => None,
+    }
+}
+
+fn add_ring<'a>(given: Given<'a>, value: &str) -> Option<Given<'a>>
+    requires { IsGiven given }
+    ensures value { option_map given_view result ≡ add_ring (given_view given.entry) value.now }
+    ensures range { ForSome result IsGiven }
+{
+    match given.ring {
+        None => {
+            let ring = Some(ring_size(value)?);
+            Some(Given { ring, ..given })
+        }
+        Some(_) => None,
+    }
+}
+
+// An option of a run of the machine with its value beside others, if it is one and isn't given yet.
+#[tactic(auto, unfolding(crate::specs::Line::add_limit))]
+fn add_limit<'a>(given: Given<'a>, name: &str, value: &str) -> Option<Given<'a>>
+    requires { IsGiven given }
+    ensures value { option_map given_view result ≡ add_limit (given_view given.entry) name.now value.now }
+    ensures range { ForSome result IsGiven }
+{
+    if name == "--steps" {
+        add_steps(given, value)
+    } else if name == "--ring" {
+        add_ring(given, value)
+    } else {
+        None
     }
 }
 
@@ -161,10 +207,8 @@ fn add_option<'a>(given: Given<'a>, name: &str, value: &'a str) -> Option<Given<
         add_tags(given, value)
     } else if name == "--seed" {
         add_seed(given, value)
-    } else if name == "--steps" {
-        add_steps(given, value)
     } else {
-        None
+        add_limit(given, name, value)
     }
 }
 
@@ -176,6 +220,7 @@ fn options_of(words: &[String]) -> Option<Given<'_>>
     let mut given = Given {
         tags: None,
         steps: None,
+        ring: None,
     };
     let mut rest = words;
     while let [name, value, after @ ..] = rest {

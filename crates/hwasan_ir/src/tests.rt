@@ -4,6 +4,7 @@
 mod bounds;
 mod clang;
 mod faults;
+mod frames;
 mod globals;
 mod modules;
 mod reports;
