@@ -1,6 +1,6 @@
 ghost use Rattle.hw_base.specs.Bytes.{le_bytes, le_number};
 ghost use Rattle.hw_region.specs.RegionBytes.{bytes_from, with_bytes_at, zeros_after};
-ghost use Rattle.std.specs.Prelude.{◌≡◌, ℕ, ◌+◌, ◌-◌, ◌*◌, ◌^◌, ◌<◌, ◌≤◌, List, ◌++◌, length, drop, replicate, slice_get, vec_capacity, IfOk, Some};
+ghost use Rattle.std.specs.Prelude.{◌≡◌, ℕ, ◌+◌, ◌-◌, ◌*◌, ◌^◌, ◌<◌, ◌≤◌, List, ◌++◌, length, drop, min, replicate, slice_get, vec_capacity, IfOk, Some};
 
 use hw_base::OutOfMemory;
 use std::alloc::Global;
@@ -131,6 +131,22 @@ impl Region {
         self.fill(end, zeros, 0);
     }
 
+    /// Some of the bytes from `at` on, one after the other, without a copy: the first of them, and mostly all.
+    pub fn run_from(&self, at: u64) -> &[u8]
+        requires inside { at < length self.now }
+        ensures bytes { bytes_from self.now at (length result.now) ≡ result.now }
+        ensures some { 0 < length result.now }
+        ensures end { at + length result.now ≤ length self.now }
+    {
+        let kept = self.bytes.as_slice();
+        let start = at as usize;
+        if start < kept.len() {
+            &kept[start..]
+        } else {
+            zeros(self.len - at)
+        }
+    }
+
     /// The kept ones of the `len` bytes from `from` on. All bytes after them are zero.
     fn kept_run(&self, from: u64, len: u64) -> &[u8]
         requires inside { from + len ≤ length self.now }
@@ -160,6 +176,14 @@ impl Region {
         self.bytes.as_mut_slice()[start..end].copy_from_slice(run);
         end as u64
     }
+}
+
+/// So many zeros, at most 64.
+fn zeros(count: u64) -> &'static [u8]
+    ensures { result.now ≡ replicate (min count 64) 0 }
+{
+    let zeros: &'static [u8] = &[0; 64];
+    &zeros[..count.min(64) as usize]
 }
 
 /// From now on the bytes up to `end` are kept, in a region of `len` bytes. Those that weren't kept before are zero.

@@ -114,3 +114,22 @@ fn bytes_of_another_region_are_copied(rt: HostRuntime) -> Result<(), Fail> {
     assert_eq!(rt; source.get(4_092, 4), 0x0403_0201);
     Ok(())
 }
+
+fn begins_with(run: &[u8], byte: u8) -> bool {
+    match run.first() {
+        Some(found) => *found == byte,
+        None => false,
+    }
+}
+
+#[test]
+fn runs_are_looked_at(rt: HostRuntime) -> Result<(), Fail> {
+    let mut region = new_region(rt.alloc(), 5_000)?;
+    assert!(rt; begins_with(region.run_from(0), 0));
+    region.put(3, 4, 0x0403_0201);
+    assert!(rt; begins_with(region.run_from(2), 0));
+    assert!(rt; begins_with(region.run_from(6), 4));
+    assert!(rt; begins_with(region.run_from(4_200), 0));
+    assert_eq!(rt; region.run_from(4_999), [0].as_slice());
+    Ok(())
+}

@@ -32,7 +32,7 @@ byte_at-past (r ∷ ranges) a h =
     ∙ byte_at-past ranges a (omega arith)
 
 -- what is mapped lies before the end
-mapped-below : (ranges : List Range) (a byte : ℕ) → byte_at ranges a ≡ Some byte → a < mapped_end ranges
+pub mapped-below : (ranges : List Range) (a byte : ℕ) → byte_at ranges a ≡ Some byte → a < mapped_end ranges
 mapped-below ranges a byte h =
     elim (cases_lt a (mapped_end ranges)) [
       | inl below ↦ below

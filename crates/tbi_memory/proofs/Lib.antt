@@ -3,6 +3,7 @@ pub mod MappedBytesLemmas
 pub mod MoveLemmas
 pub mod PartLemmas
 pub mod RangeLemmas
+pub mod ReadLemmas
 pub mod RunLemmas
 pub mod SpaceLemmas
 pub mod StartLemmas

@@ -1,6 +1,6 @@
 -- The mapped parts of memory: constants, variables, the stacks of all tasks, and the heap; the address space that they
 -- make, and what its calls return. This project's choice.
-use Rattle.std.specs.Prelude.{◌==◌, ◌≡◌, ℕ, zero, suc, ◌+◌, ◌-◌, ◌*◌, ◌%◌, ◌^◌, ◌≤◌, List, [], ◌∷◌, length, Bool, ◌&&◌, nat_le, if◌then◌else◌, Option, Some, None, unwrap_or, Result, Ok, Err}
+use Rattle.std.specs.Prelude.{◌==◌, ◌≡◌, ℕ, zero, suc, ◌+◌, ◌-◌, ◌*◌, ◌%◌, ◌^◌, ◌<◌, ◌≤◌, List, [], ◌∷◌, length, Bool, ◌&&◌, nat_le, if◌then◌else◌, Option, Some, None, unwrap_or, Result, Ok, Err}
 use Rattle.hw_base.specs.AddressMap.{granule_of}
 use Rattle.hw_base.specs.Bytes.{le_number}
 use Rattle.hw_base.specs.TaggedAddress.{address_of}
@@ -45,7 +45,7 @@ pub record AreInOrder (constants variables stacks heap : MappedPart) : Type 0 wh
   pub constants_end : constants.at + length constants.bytes ≤ variables.at
   pub variables_end : variables.at + length variables.bytes ≤ stacks.at
   pub stacks_end : stacks.at + length stacks.bytes ≤ heap.at
-  pub heap_end : heap.at + length heap.bytes ≤ 2 ^ 56
+  pub heap_end : heap.at + length heap.bytes < 2 ^ 56
 
 -- so many bytes from an address on lie in a range
 abbrev pub lie_in : Range → (address count : ℕ) → Bool

@@ -10,6 +10,7 @@ mod mapped_part;
 mod mem_fault;
 mod memory;
 mod moves;
+mod reads;
 
 pub use examples::{a_small_space, objects_in_memory, refused_accesses};
 pub use hw_shadow::Mismatch;

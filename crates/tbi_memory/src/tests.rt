@@ -284,3 +284,28 @@ fn bytes_are_moved_over_a_border(rt: HostRuntime) -> Result<(), Fail> {
     assert!(rt; reads_four(&memory, 0x1_001e, 0x0201_0201));
     Ok(())
 }
+
+fn read_is_refused_at(memory: &Memory, v: u64, n: u64, at: u64) -> bool {
+    match memory.read_fault(v, n) {
+        Some(MemFault::Unmapped(found)) => found == at,
+        _ => false,
+    }
+}
+
+fn has_run(memory: &Memory, v: u64, bytes: &[u8]) -> bool {
+    memory.run_from(v).starts_with(bytes)
+}
+
+#[test]
+fn runs_are_looked_at(rt: HostRuntime) -> Result<(), Fail> {
+    let mut memory = touching_memory(rt.alloc())?;
+    load_four_bytes(&mut memory);
+    assert!(rt; has_run(&memory, 0xab00_0000_0001_001d, &[0, 1, 2]));
+    assert!(rt; has_run(&memory, 0x1_0020, &[3, 4, 0]));
+    assert!(rt; has_run(&memory, 0x10ff_ffff, &[0]));
+    assert!(rt; memory.run_from(0x1_0030).is_empty());
+    assert!(rt; memory.read_fault(0x1_0000, 48).is_none());
+    assert!(rt; read_is_refused_at(&memory, 0xab00_0000_0001_001d, 48, 0x1_0030));
+    assert!(rt; memory.read_fault(0x1_0030, 0).is_none());
+    Ok(())
+}
