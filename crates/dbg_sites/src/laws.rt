@@ -1,8 +1,10 @@
 ghost use Rattle.dbg_sites.specs.ChainTable.{ChainEntry, IsChainTable, chain_of, pushed};
 ghost use Rattle.hw_base.specs.declared.pointers.Site.{Site};
-ghost use Rattle.std.specs.Prelude.{◌≡◌, ℕ, ◌<◌, ◌≤◌, List, [], ◌∷◌, length, All, Some, true};
+ghost use Rattle.dbg_sites.specs.Frames.{frames_within, frames_of};
+ghost use Rattle.std.specs.Prelude.{◌≡◌, ℕ, ◌+◌, ◌<◌, ◌≤◌, List, [], ◌∷◌, length, All, Some, true};
 ghost use Rattle.ir_core.specs.declared.meta.Node.{Node};
-ghost use Rattle.ir_core.specs.Scopes.{scopes_end, calls_end};
+ghost use Rattle.ir_core.specs.declared.ir_module.Module.{Module};
+ghost use Rattle.ir_core.specs.Scopes.{scopes_end, calls_end, HasEndingScopes};
 ghost use Rattle.ir_grammar.specs.DebugNodes.{IsResolved};
 
 /// A site put in front of a chain gives the number of that chain, and all earlier numbers keep their chains.
@@ -30,4 +32,15 @@ pub fn chains_end_within_the_nodes()
         → scopes_end steps nodes (Some k) ≡ true → scopes_end (length nodes) nodes (Some k) ≡ true }
     ensures calls { (nodes : List Node) (k steps : ℕ) → All (IsResolved nodes) nodes → k < length nodes
         → calls_end steps nodes (Some k) ≡ true → calls_end (length nodes) nodes (Some k) ≡ true }
+{}
+
+/// In a module whose chains end the bound in the definition of frames, the number of nodes, cuts nothing off: with any larger
+/// bound the frames are the same.
+pub fn no_chain_is_cut_off()
+    ensures { (m : Module) (site : Site) (more : ℕ) → HasEndingScopes m → frames_within (more + length m.meta) m site ≡ frames_of m site }
+{}
+
+/// Each site has a frame, whatever the module says of it.
+pub fn each_site_has_a_frame()
+    ensures { (m : Module) (site : Site) → 1 ≤ length (frames_of m site) }
 {}

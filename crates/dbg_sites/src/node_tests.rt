@@ -4,7 +4,7 @@ use std::alloc::Global;
 use std::process::Abort;
 use std::test::Fail;
 
-mod module_text;
+pub(crate) mod module_text;
 
 /// A number of a node, or `-`.
 fn shown_number(alloc: Global, number: Option<u32>) -> Result<String, Fail> {

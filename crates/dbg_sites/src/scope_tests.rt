@@ -8,7 +8,7 @@ use std::alloc::Global;
 use std::process::Abort;
 use std::test::Fail;
 
-/// A function of instructions with these debug locations, the k-th of them in line k.
+/// A function `f` of instructions with these debug locations, the k-th of them in line k.
 fn function_of(alloc: Global, nodes: &[u32]) -> Result<Function, Fail> {
     let mut insts = InstList::new(alloc);
     let mut line: u32 = 1;
@@ -23,7 +23,7 @@ fn function_of(alloc: Global, nodes: &[u32]) -> Result<Function, Fail> {
         })?;
     }
     Ok(Function {
-        name: ByteList::new(alloc),
+        name: ByteList::from_vec(Vec::from_slice(alloc, b"f".as_slice())?),
         params: 0,
         result: 0,
         regs: TypeIdList::new(alloc),
@@ -35,7 +35,7 @@ fn function_of(alloc: Global, nodes: &[u32]) -> Result<Function, Fail> {
 }
 
 /// A module with the metadata of a text and a function of these debug locations.
-fn module_of(alloc: Global, text: &[u8], nodes: &[u32]) -> Result<Module, Fail> {
+pub(crate) fn module_of(alloc: Global, text: &[u8], nodes: &[u32]) -> Result<Module, Fail> {
     if text.len() > 16777216 {
         return Err(Fail::from("too long"));
     }

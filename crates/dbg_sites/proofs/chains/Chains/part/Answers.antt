@@ -1,8 +1,4 @@
-use Rattle.std.proofs.Common.{◌≡◌, ℕ, ◌-◌, refl, ap, sym, ◌∙◌, Option}
-use Rattle.std.specs.Prelude.{List}
-use Rattle.hw_base.specs.declared.pointers.Site.{Site}
-use Rattle.dbg_sites.specs.ChainTable.{ChainEntry, part_of}
-use Rattle.dbg_sites.specs.ChainLinks.{IsPart}
+use Rattle.std.proofs.Common.{refl, sym}
 use Rattle.dbg_sites.proofs.ChainLinkLaws.{part_of-link, part_of-none}
 use Rattle.dbg_sites.proofs.chains.Chains.part.Goals as goal
 

@@ -1,5 +1,4 @@
-use Rattle.std.proofs.Common.{◌≡◌, ◌+◌, ℕ, List, ap, sym, ◌∙◌}
-use Rattle.std.specs.List.{position_or_len}
+use Rattle.std.proofs.Common.{◌+◌, List, ap, sym, ◌∙◌}
 use Rattle.dbg_sites.specs.ChainTable.{ChainEntry, Numbered, pushed}
 use Rattle.dbg_sites.specs.ChainLinks.{entries_of}
 use Rattle.dbg_sites.specs.declared.chains.Link.{Link}
