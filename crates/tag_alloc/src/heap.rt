@@ -153,6 +153,32 @@ impl Heap {
         }
     }
 
+    /// The block that a free of a number ends, or none if the number is 0. The error is what refuses the free, as for `may_free`.
+    pub fn to_free(&self, number: u64) -> Result<Option<Block>, FreeMismatch>
+        ensures { result ≡ ok_unless (free_mismatch self.now.state number) (freed_block self.now.state number) }
+    {
+        if number == 0 {
+            return Ok(None);
+        }
+        let pointer = (number / ADDRESSES) as u8;
+        match self.table.at(number % ADDRESSES) {
+            None => Err(FreeMismatch {
+                pointer,
+                block: None,
+            }),
+            Some(block) => {
+                if block.tag == pointer {
+                    Ok(Some(block))
+                } else {
+                    Err(FreeMismatch {
+                        pointer,
+                        block: Some(block.tag),
+                    })
+                }
+            }
+        }
+    }
+
     /// A task frees a number, for the chain of the call. The block that begins there ends: it draws the word of its granules'
     /// new tag, and the task remembers the block. A free of 0 changes nothing. The error is what refuses the free, as for
     /// `may_free`; then nothing changes either, and no word is drawn. It takes no memory of the host. It passes the free ranges
@@ -212,32 +238,6 @@ impl Heap {
         match self.rings.get(task as usize) {
             Some(ring) => ring.newest_first(i),
             None => None,
-        }
-    }
-
-    /// The block that a free of a number ends, or none if the number is 0. The error is what refuses the free.
-    fn to_free(&self, number: u64) -> Result<Option<Block>, FreeMismatch>
-        ensures { result ≡ ok_unless (free_mismatch self.now.state number) (freed_block self.now.state number) }
-    {
-        if number == 0 {
-            return Ok(None);
-        }
-        let pointer = (number / ADDRESSES) as u8;
-        match self.table.at(number % ADDRESSES) {
-            None => Err(FreeMismatch {
-                pointer,
-                block: None,
-            }),
-            Some(block) => {
-                if block.tag == pointer {
-                    Ok(Some(block))
-                } else {
-                    Err(FreeMismatch {
-                        pointer,
-                        block: Some(block.tag),
-                    })
-                }
-            }
         }
     }
 
