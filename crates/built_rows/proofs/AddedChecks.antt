@@ -1,4 +1,5 @@
--- The tag work of what the machine runs: checks of one granule, and the ends of frames with variables, before returns alone.
+-- The tag work of what the machine runs: checks of one granule and of frees, and the ends of frames with variables, before returns
+-- alone.
 use Rattle.std.proofs.Common.{◌≡◌, ℕ, zero, suc, ◌≤◌, true, List, [], ◌∷◌, get_or, refl, arith}
 use Rattle.std.specs.Prelude.{Bool, false, ◌&&◌, if◌then◌else◌, nat_le}
 use Rattle.std.specs.List.{All}
@@ -22,17 +23,21 @@ use Rattle.mi_code.specs.MachineOperands.{operand_of}
 use Rattle.mi_code.specs.TagChecks.{check_of, is_one_size, leave_code, library_checks, lib_of, added_code, type_check}
 use Rattle.built_rows.specs.Unbuilt.{is_built_function, is_built_row, is_one_access}
 
-no-checks : (function : Lib) (args : List Placed) → is_built_function function ≡ true → library_checks function args ≡ []
-no-checks lib.Putchar args built = refl
-no-checks lib.Exit args built = refl
-no-checks lib.Abort args built = refl
-no-checks lib.LlvmTrap args built = refl
-no-checks lib.LifetimeStart args built = refl
-no-checks lib.LifetimeEnd args built = refl
-no-checks lib.Assume args built = refl
-no-checks (lib.Bits kind width) args built = refl
-no-checks (lib.Overflow kind width) args built = refl
-no-checks other args built = absurd cc
+library-checked : (function : Lib) (args : List Placed) → is_built_function function ≡ true → All IsBuiltOp (library_checks function args)
+library-checked lib.Malloc args built = All-nil IsBuiltOp
+library-checked lib.Calloc args built = All-nil IsBuiltOp
+library-checked lib.Realloc args built = All-cons IsBuiltOp _ [] tt (All-nil IsBuiltOp)
+library-checked lib.Free args built = All-cons IsBuiltOp _ [] tt (All-nil IsBuiltOp)
+library-checked lib.Putchar args built = All-nil IsBuiltOp
+library-checked lib.Exit args built = All-nil IsBuiltOp
+library-checked lib.Abort args built = All-nil IsBuiltOp
+library-checked lib.LlvmTrap args built = All-nil IsBuiltOp
+library-checked lib.LifetimeStart args built = All-nil IsBuiltOp
+library-checked lib.LifetimeEnd args built = All-nil IsBuiltOp
+library-checked lib.Assume args built = All-nil IsBuiltOp
+library-checked (lib.Bits kind width) args built = All-nil IsBuiltOp
+library-checked (lib.Overflow kind width) args built = All-nil IsBuiltOp
+library-checked other args built = absurd cc
 
 some-bytes : (n : ℕ) → is_one_size n ≡ true → 1 ≤ n
 some-bytes zero one = absurd cc
@@ -48,9 +53,6 @@ access-checked m ty align at access one =
     let size = (both (is_one_size n) (nat_le n align) one).0 in
     All-cons IsBuiltOp (check_of n align (operand_of at) access) [] (checked (is_one_size n && nat_le n align) n (operand_of at) access one (some-bytes n size)) (All-nil IsBuiltOp)
 
-none-built : (ops : List MiOp) → ops ≡ [] → All IsBuiltOp ops
-none-built ops none = rw none (All-nil IsBuiltOp)
-
 abbrev pub is_return : Op → Bool
 is_return (op.Ret value) = true
 is_return other = false
@@ -61,7 +63,7 @@ checks-built m sizes (op.Load ty at align) other built = access-checked m ty ali
 checks-built m sizes (op.Store value at align) other built = access-checked m value.ty align at Write built
 checks-built m sizes (op.Rmw kind at value align) other built = absurd cc
 checks-built m sizes (op.CmpXchg at expected new align) other built = absurd cc
-checks-built m sizes (op.CallLib declare result args start) other built = none-built _ (no-checks (lib_of m declare) args built)
+checks-built m sizes (op.CallLib declare result args start) other built = library-checked (lib_of m declare) args built
 checks-built m sizes (op.Ret value) other built = absurd cc
 checks-built m sizes o other built = All-nil IsBuiltOp
 

@@ -74,6 +74,10 @@ lib-there (d ∷ declares) (suc n) there within = lib-there declares n (λ k e h
 
 library-built : (f : Function) (function : Lib) (r : Option ℕ) (args : List Placed) (start : Option StartArg) → IsThere function → is_built_function function ≡ true
     → IsBuiltOp (library_call f function r args start)
+library-built f lib.Malloc r args start there built = tt
+library-built f lib.Calloc r args start there built = tt
+library-built f lib.Realloc r args start there built = tt
+library-built f lib.Free r args start there built = tt
 library-built f lib.Putchar r args start there built = tt
 library-built f lib.Exit r args start there built = tt
 library-built f lib.Abort r args start there built = tt

@@ -1,5 +1,5 @@
 -- What of a module the machine doesn't run yet, and its first place in the text: accesses that may touch more than one granule, what
--- deals with tasks, and library functions that use memory. The place of an instruction is its first token. This project's choice; the
+-- deals with tasks, and library functions on runs of bytes, on strings and on input. The place of an instruction is its first token. This project's choice; the
 -- table goes when the machine runs all.
 use Rattle.std.specs.Prelude.{ℕ, ◌&&◌, Bool, true, false, nat_le, Option}
 use Rattle.ir_core.specs.declared.faults.Fault.TheVariants.{Unsupported}
@@ -20,6 +20,10 @@ use Rattle.mi_code.specs.TagChecks.{is_one_size, lib_of}
 
 -- library functions that the machine runs
 abbrev pub is_built_function : Lib → Bool
+is_built_function lib.Malloc = true
+is_built_function lib.Calloc = true
+is_built_function lib.Realloc = true
+is_built_function lib.Free = true
 is_built_function lib.Putchar = true
 is_built_function lib.Exit = true
 is_built_function lib.Abort = true

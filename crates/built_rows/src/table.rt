@@ -48,6 +48,10 @@ fn is_built_function(lib: Lib) -> bool
     ensures { result ≡ is_built_function lib }
 {
     match lib {
+        Lib::Malloc => true,
+        Lib::Calloc => true,
+        Lib::Realloc => true,
+        Lib::Free => true,
         Lib::Putchar => true,
         Lib::Exit => true,
         Lib::Abort => true,
@@ -99,7 +103,8 @@ fn unbuilt_function(m: &Module, f: &Function) -> Option<Refusal>
 }
 
 /// The refusal of what comes first in the text of a module and isn't built, with the fault `Unsupported`, or none if the machine
-/// runs the whole module. Unbuilt are loads and stores that may touch more than one granule, atomic instructions, and library functions that use memory, read input or deal with tasks. The place of an instruction is that of its
+/// runs the whole module. Unbuilt are loads and stores that may touch more than one granule, atomic instructions, and
+/// library functions on runs of bytes, on strings, on input and on tasks. The place of an instruction is that of its
 /// first token. It takes no memory, and time in proportion to the module.
 pub fn unbuilt(m: &Module) -> Option<Refusal>
     ensures { result ≡ unbuilt m.now }

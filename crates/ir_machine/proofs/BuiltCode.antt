@@ -3,9 +3,11 @@ use Rattle.std.proofs.Common.{◌≡◌, ℕ, zero, suc, ◌+◌, List, [], ◌�
 use Rattle.std.specs.Option.{ForSome}
 use Rattle.std.specs.Prelude.{All, slice_get}
 use Rattle.std.proofs.lemmas.Option.{slice_get_within, get_or_from_slice_get}
+use Rattle.ir_core.specs.declared.lib_functions.Lib.{Lib}
+use Rattle.ir_core.specs.declared.lib_functions.Lib.TheVariants as lib
 use Rattle.mi_code.specs.declared.code_functions.CodeFunction.{CodeFunction}
 use Rattle.mi_code.specs.declared.code_functions.Mi.{Mi}
-use Rattle.ir_machine.specs.Built.{BeginsWithReturn, HasReturns, IsBuilt, IsBuiltCode, IsBuiltFunctionCode, IsLeave, IsReturn}
+use Rattle.ir_machine.specs.Built.{BeginsWithReturn, HasReturns, IsBuilt, IsBuiltCode, IsBuiltFunction, IsBuiltFunctionCode, IsByteFunction, IsLeave, IsReturn, IsTextFunction}
 use Rattle.ir_machine.specs.CallSteps.{code_at, no_code}
 
 pub built-among : (insts : List Mi) (place : ℕ) (mi : Mi) → All IsBuilt insts → slice_get insts place ≡ Some mi → IsBuilt mi
@@ -45,3 +47,23 @@ pub returns-after : (insts : List Mi) (place : ℕ) (mi : Mi) → HasReturns ins
 returns-after insts place mi has found leave next after =
     let more : place + 1 ≡ suc place = omega arith in
     return-after insts place mi next has found leave (subst (λ n. slice_get insts n ≡ Some next) more after)
+
+-- a library function on runs of bytes
+pub byte-function : (function : Lib) → (function ≡ lib.Strlen → ⊥) → (function ≡ lib.Puts → ⊥) → (function ≡ lib.Putchar → ⊥) → (function ≡ lib.Exit → ⊥)
+    → (function ≡ lib.Abort → ⊥) → (function ≡ lib.LlvmTrap → ⊥) → IsTextFunction function → IsByteFunction function
+byte-function lib.Strlen no_strlen no_puts no_putchar no_exit no_abort no_trap built = absurd (no_strlen refl)
+byte-function lib.Puts no_strlen no_puts no_putchar no_exit no_abort no_trap built = absurd (no_puts refl)
+byte-function lib.Putchar no_strlen no_puts no_putchar no_exit no_abort no_trap built = absurd (no_putchar refl)
+byte-function lib.Exit no_strlen no_puts no_putchar no_exit no_abort no_trap built = absurd (no_exit refl)
+byte-function lib.Abort no_strlen no_puts no_putchar no_exit no_abort no_trap built = absurd (no_abort refl)
+byte-function lib.LlvmTrap no_strlen no_puts no_putchar no_exit no_abort no_trap built = absurd (no_trap refl)
+byte-function other no_strlen no_puts no_putchar no_exit no_abort no_trap built = built
+
+-- a library function that the machine runs and that has no blocks
+pub text-function : (function : Lib) → (function ≡ lib.Malloc → ⊥) → (function ≡ lib.Calloc → ⊥) → (function ≡ lib.Realloc → ⊥) → (function ≡ lib.Free → ⊥)
+    → IsBuiltFunction function → IsTextFunction function
+text-function lib.Malloc no_malloc no_calloc no_realloc no_free built = absurd (no_malloc refl)
+text-function lib.Calloc no_malloc no_calloc no_realloc no_free built = absurd (no_calloc refl)
+text-function lib.Realloc no_malloc no_calloc no_realloc no_free built = absurd (no_realloc refl)
+text-function lib.Free no_malloc no_calloc no_realloc no_free built = absurd (no_free refl)
+text-function other no_malloc no_calloc no_realloc no_free built = built

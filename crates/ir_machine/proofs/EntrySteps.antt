@@ -6,7 +6,7 @@ use Rattle.hw_tags.specs.declared.words.Words.{Words}
 use Rattle.stack_tags.specs.FrameSteps.{StacksAfter, entered}
 use Rattle.ir_machine.specs.CallSteps.{after_variables, begins_with_entry, code_at, enter_step, entry_if, entry_of, variables_of, with_variables}
 use Rattle.ir_machine.specs.Programs.{HasProgram, sizes_at}
-use Rattle.ir_machine.specs.RunStates.{AreNext, GrowsByOne}
+use Rattle.ir_machine.specs.RunStates.{AreNext, GrowsLittle}
 use Rattle.ir_machine.specs.State.{MachineSetting, MachineShared}
 use Rattle.ir_machine.specs.declared.program.Program.{Program}
 

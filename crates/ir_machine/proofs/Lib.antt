@@ -1,6 +1,8 @@
 pub mod StartLemmas
 pub mod OneTask
 pub mod StepGrowth
+mod Growth
+mod BlockSteps
 mod EntrySteps
 mod ProgramLemmas
 mod StartedMachines

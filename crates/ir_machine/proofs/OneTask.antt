@@ -11,10 +11,10 @@ use Rattle.ir_machine.specs.Runs.{step_in}
 use Rattle.ir_machine.specs.Built.{IsBuiltCode}
 use Rattle.ir_machine.specs.MachineStates.{MachineState, world_of, IsEnd, IsMachineOf, IsReady, IsStep}
 use Rattle.ir_machine.specs.Programs.{AreSmall, HasProgram}
-use Rattle.ir_machine.specs.RunStates.{RunState, IsOutcome, EndsRun, GrowsByOne}
+use Rattle.ir_machine.specs.RunStates.{RunState, IsOutcome, EndsRun, GrowsLittle}
 use Rattle.ir_machine.specs.State.{MachineSetting, MachineSeen, MachineShared, MachineOutcome, MachineWorld, MachineWorldStep}
 use Rattle.ir_machine.specs.declared.program.Program.{Program}
-use Rattle.ir_machine.proofs.StepGrowth.{next-words}
+use Rattle.ir_machine.proofs.Growth.{next-words}
 
 -- the only task makes the step, whatever the turn words
 pub one-task : (step : MachineSeen → MachineOutcome) (turns : ℕ → ℕ) (m : MachineState) (seen : MachineSeen) → m.run.seen.task ≡ 0 → m.run.seen.finished ≡ false ∷ []
@@ -92,16 +92,16 @@ ended-no-next w v printed Stuck ends same = ends
 begun-shared : (begun run : RunState) (step : ℕ) → begun ≡ record run { seen = record run.seen { step = step } } → begun.seen.shared ≡ run.seen.shared
 begun-shared begun run step same = ap (λ (v : RunState). v.seen.shared) same
 
-module _ (before after : MachineState) (begun : RunState) (same : begun ≡ record before.run { seen = record before.run.seen { step = before.steps + 1 } }) (program : after.program ≡ before.program) (grows : GrowsByOne before.words after.words begun.seen.shared after.run.seen.shared) where
-  grown : GrowsByOne before.words after.words before.run.seen.shared after.run.seen.shared
-  grown = subst (λ (shared : MachineShared). GrowsByOne before.words after.words shared after.run.seen.shared) (begun-shared begun before.run (before.steps + 1) same) grows
+module _ (before after : MachineState) (begun : RunState) (same : begun ≡ record before.run { seen = record before.run.seen { step = before.steps + 1 } }) (program : after.program ≡ before.program) (grows : GrowsLittle before.words after.words begun.seen.shared after.run.seen.shared) where
+  grown : GrowsLittle before.words after.words before.run.seen.shared after.run.seen.shared
+  grown = subst (λ (shared : MachineShared). GrowsLittle before.words after.words shared after.run.seen.shared) (begun-shared begun before.run (before.steps + 1) same) grows
 
   -- it is still one of the setting
   pub machine-kept : (setting : MachineSetting) → IsMachineOf setting before → IsMachineOf setting after
   machine-kept setting is =
       record {
         program = subst (HasProgram setting) (sym program) is.program;
-        words = next-words setting before.words after.words before.run.seen.shared.drawn after.run.seen.shared.drawn is.words grown.drawn;
+        words = next-words setting 2 before.words after.words before.run.seen.shared.drawn after.run.seen.shared.drawn is.words grown.drawn;
       }
 
   -- and can make a step
@@ -116,6 +116,8 @@ module _ (before after : MachineState) (begun : RunState) (same : begun ≡ reco
       let births_before = ready.births held in
       let drawn_before = ready.drawn held in
       let stack_before = ready.stack held in
+      let rings = grown.rings_are in
+      let ring_before = ready.ring held in
       record {
         built = subst (λ (p : Program). IsBuiltCode p.code) (sym program) ready.built;
         small = subst AreSmall (sym program) ready.small;
@@ -123,4 +125,5 @@ module _ (before after : MachineState) (begun : RunState) (same : begun ≡ reco
         births = λ e. omega (arith, births, births_before, count);
         drawn = λ e. omega (arith, drawn, few, drawn_before, count);
         stack = λ e. omega (arith, stacks, stack_before);
+        ring = λ e. omega (arith, rings, ring_before);
       }

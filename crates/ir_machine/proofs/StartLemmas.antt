@@ -1,5 +1,5 @@
 -- The start of a run of a module.
-use Rattle.std.proofs.Common.{◌≡◌, ℕ, ◌<◌, true, false, List, [], ◌∷◌, length, get_or, refl, ap, ◌∙◌, Some, Ok, Err, arith}
+use Rattle.std.proofs.Common.{◌≡◌, ℕ, ◌+◌, ◌<◌, true, false, List, [], ◌∷◌, length, get_or, refl, ap, ◌∙◌, Some, Ok, Err, arith}
 use Rattle.std.specs.Prelude.{slice_get, ◌==◌}
 use Rattle.std.proofs.lemmas.Bool.Decides.{nat_tests}
 use Rattle.std.proofs.lemmas.Option.{slice_get-get_or}
@@ -19,6 +19,8 @@ use Rattle.mi_code.specs.declared.code_functions.CodeFunction.{CodeFunction}
 use Rattle.ir_tasks.specs.CallStacks.{fresh_frame}
 use Rattle.ir_tasks.specs.Frames.{at_place}
 use Rattle.stack_tags.specs.Frames.{StacksState, stacks_at_start, with_task}
+use Rattle.tag_alloc.specs.HeapBlocks.{HeapState}
+use Rattle.tag_alloc.specs.HeapBlocks as blocks
 use Rattle.ir_machine.specs.CallSteps.{code_at, entry_of, no_code, with_arguments}
 use Rattle.ir_machine.specs.MachineStates.{MachineState, world_of, IsSettingOf}
 use Rattle.ir_machine.specs.RunStates.{loaded_module, shared_of}
@@ -72,13 +74,18 @@ pub births-one : (globals : List GlobalVar) → (length globals == 0) ≡ false 
 births-one [] e = absurd cc
 births-one (global ∷ globals) e = refl
 
-pub loaded-shared : (m : Module) (options : Options) (births drawn w : ℕ) (frames : StacksState) (memory before : AddressSpace) (found : List Descriptor) (layout : Layout)
+pub heap-start : (length ring : ℕ) → record { from = 536870912; end = 536870912 + length; living = []; living_size = 0; freed = []; ring = ring } ≡ blocks.heap_at_start (program_map length) ring
+unfolding program_map
+heap-start length ring = refl
+
+pub loaded-shared : (m : Module) (options : Options) (births drawn w : ℕ) (heap : HeapState) (frames : StacksState) (memory before : AddressSpace) (found : List Descriptor) (layout : Layout)
     → w ≡ word options.tags 0 → found ≡ descriptors_of (program_map options.heap) m.layouts m.globals w → memory ≡ with_globals found before found m.globals
     → before ≡ space_at_start (program_map layout.heap) layout → layout.heap ≡ options.heap → layout ≡ layout_of (program_map options.heap) m.layouts m.globals
+    → heap ≡ blocks.with_task (blocks.heap_at_start (program_map options.heap) options.ring)
     → frames ≡ with_task (stacks_at_start (program_map options.heap) options.ring) → births ≡ global_births m.globals → drawn ≡ births
-    → shared_of memory found frames births drawn options.heap options.ring [] ≡ loaded_module m options
-loaded-shared m options births drawn w frames memory before found layout first is_found is_memory is_before heap is_layout is_frames is_births is_drawn =
+    → shared_of memory found heap frames births drawn [] ≡ loaded_module m options
+loaded-shared m options births drawn w heap frames memory before found layout first is_found is_memory is_before same_heap is_layout is_heap is_frames is_births is_drawn =
     let space : before ≡ space_at_start (program_map options.heap) (layout_of (program_map options.heap) m.layouts m.globals) =
-    is_before ∙ (ap (λ n. space_at_start (program_map n) layout) heap ∙ ap (space_at_start (program_map options.heap)) is_layout) in
+    is_before ∙ (ap (λ n. space_at_start (program_map n) layout) same_heap ∙ ap (space_at_start (program_map options.heap)) is_layout) in
     let globals : found ≡ descriptors_of (program_map options.heap) m.layouts m.globals (word options.tags 0) = is_found ∙ ap (descriptors_of (program_map options.heap) m.layouts m.globals) first in
-    rw (is_drawn, is_births, is_memory, space, globals, is_frames, one-each m.globals) refl
+    rw (is_drawn, is_births, is_memory, space, globals, is_heap, is_frames, one-each m.globals) refl

@@ -22,13 +22,13 @@ use Rattle.ir_machine.specs.declared.start_error.StartError.{StartError}
 use Rattle.ir_machine.specs.declared.start_error.StartError.TheVariants as start
 use Rattle.stack_tags.specs.declared.enter_error.EnterError.{EnterError}
 use Rattle.stack_tags.specs.declared.enter_error.EnterError.TheVariants as enter
-use Rattle.ir_machine.specs.RunStates.{RunState, AreNext, GrowsByOne, HasDrawn, first_state, loaded_module, with_frame}
+use Rattle.ir_machine.specs.RunStates.{RunState, AreNext, Grows, HasDrawn, first_state, loaded_module, with_frame}
 use Rattle.ir_machine.specs.Start.{global_births}
 use Rattle.ir_machine.specs.State.{MachineSetting, MachineSeen, MachineShared}
 use Rattle.ir_machine.specs.declared.program.Program.{Program}
 use Rattle.ir_machine.proofs.ProgramLemmas.{are-small, has-program}
 use Rattle.ir_machine.proofs.StartLemmas.{full-start, started}
-use Rattle.ir_machine.proofs.StepGrowth.{next-words}
+use Rattle.ir_machine.proofs.Growth.{next-words}
 
 few-births : (globals : List GlobalVar) → global_births globals ≤ 1
 few-births [] = omega arith
@@ -78,7 +78,7 @@ module _ (m : Module) (options : Options) (functions : List CodeFunction) (progr
       full-start setting m functions options is loaded.main full
       (ap (λ (shared : MachineShared). entry_of setting 0 m.main 0 shared) (sym shared-is) ∙ entry setting (has setting is) (next-is setting is))
 
-  module _ (entered last : RunState) (next : Words) (place : ℕ) (same : entered ≡ record first { seen = record first.seen { shared = entered.seen.shared } }) (grows : GrowsByOne words next first.seen.shared entered.seen.shared) (chains : length entered.seen.shared.chains ≡ length first.seen.shared.chains) (moved : last ≡ with_frame entered (at_place entered.seen.frame place)) where
+  module _ (entered last : RunState) (next : Words) (place : ℕ) (same : entered ≡ record first { seen = record first.seen { shared = entered.seen.shared } }) (grows : Grows 0 1 1 words next first.seen.shared entered.seen.shared) (moved : last ≡ with_frame entered (at_place entered.seen.frame place)) where
     abbrev pub machine : MachineState
     machine = record { program = program; run = last; words = next; steps = 0; lost = false }
 
@@ -107,8 +107,8 @@ module _ (m : Module) (options : Options) (functions : List CodeFunction) (progr
           lost = refl;
           machine = λ setting is. record {
             program = has setting is;
-            words = next-words setting words next first.seen.shared.drawn last.seen.shared.drawn (next-is setting is)
-                (subst (λ (shared : MachineShared). HasDrawn words next first.seen.shared.drawn shared.drawn) (sym last-shared) grows.drawn);
+            words = next-words setting 1 words next first.seen.shared.drawn last.seen.shared.drawn (next-is setting is)
+                (subst (λ (shared : MachineShared). HasDrawn 1 words next first.seen.shared.drawn shared.drawn) (sym last-shared) grows.drawn);
           };
           world = λ setting is.
               started setting m functions options is loaded.main place machine
@@ -126,13 +126,17 @@ module _ (m : Module) (options : Options) (functions : List CodeFunction) (progr
         let drawn_of : first.seen.shared.drawn ≡ global_words m.globals = ap (λ (shared : MachineShared). shared.drawn) shared-is in
         let chains_of : length first.seen.shared.chains ≡ 0 = ap (λ (shared : MachineShared). length shared.chains) shared-is in
         let stacks_of : length first.seen.shared.stacks.tasks ≡ 1 = ap (λ (shared : MachineShared). length shared.stacks.tasks) shared-is in
+        let rings_of : length first.seen.shared.heap.freed ≡ 1 = ap (λ (shared : MachineShared). length shared.heap.freed) shared-is in
+        let chains = grows.chains in
         let births = grows.births in
         let drawn = grows.drawn.drawn in
         let few = grows.drawn.few in
         let stacks = grows.stacks_are in
+        let rings = grows.rings_are in
         let last_births : last.seen.shared.births ≡ entered.seen.shared.births = ap (λ (shared : MachineShared). shared.births) last-shared in
         let last_drawn : last.seen.shared.drawn ≡ entered.seen.shared.drawn = ap (λ (shared : MachineShared). shared.drawn) last-shared in
         let last_chains : length last.seen.shared.chains ≡ length entered.seen.shared.chains = ap (λ (shared : MachineShared). length shared.chains) last-shared in
+        let last_rings : length last.seen.shared.heap.freed ≡ length entered.seen.shared.heap.freed = ap (λ (shared : MachineShared). length shared.heap.freed) last-shared in
         let last_stacks : length last.seen.shared.stacks.tasks ≡ length entered.seen.shared.stacks.tasks = ap (λ (shared : MachineShared). length shared.stacks.tasks) last-shared in
         record {
           built = subst IsBuiltCode (sym loaded.code) built;
@@ -141,4 +145,5 @@ module _ (m : Module) (options : Options) (functions : List CodeFunction) (progr
           births = λ e. omega (arith, last_births, births, births_of, first_births);
           drawn = λ e. omega (arith, last_drawn, drawn, few, drawn_of, first_words);
           stack = λ e. omega (arith, last_stacks, stacks, stacks_of);
+          ring = λ e. omega (arith, last_rings, rings, rings_of);
         }

@@ -1,23 +1,24 @@
--- What a step adds: one chain at most, and no birth and no word if it enters no frame with variables.
-use Rattle.std.proofs.Common.{◌≡◌, ◌≢◌, ℕ, zero, suc, ◌+◌, ◌≤◌, Bool, true, false, List, [], ◌∷◌, length, refl, ap, sym, ◌∙◌, subst, Option, Some, None, Result, Ok, Err, arith}
+-- What a step adds: one chain at most, and no birth and no word if it enters no frame with variables and has no blocks.
+use Rattle.std.proofs.Common.{◌≡◌, ◌≢◌, ℕ, zero, suc, ◌+◌, ◌≤◌, Bool, true, false, List, [], ◌∷◌, ◌++◌, length, refl, ap, sym, ◌∙◌, subst, Option, Some, None, Result, Ok, Err, arith}
 use Rattle.std.proofs.lemmas.List.{length_push}
 use Rattle.hw_base.specs.declared.endings.Input.{Input}
 use Rattle.hw_base.specs.declared.accesses.Access.{Access}
-use Rattle.hw_base.specs.declared.accesses.Access.TheVariants.{Read, Write}
+use Rattle.hw_base.specs.declared.accesses.Access.TheVariants.{Free, Read, Write}
 use Rattle.hw_base.specs.declared.endings.Trap.{Trap}
 use Rattle.hw_base.specs.declared.endings.Trap.TheVariants.{Abort, Unreachable, ReadOnly as ConstantWritten}
+use Rattle.hw_base.specs.Bytes.{byte_order, order_bits}
 use Rattle.hw_base.specs.declared.pointers.Site.{Site}
 use Rattle.hw_shadow.specs.declared.mismatch.Mismatch.TheVariants.{Unmapped as NotMapped}
 use Rattle.hw_shadow.specs.declared.mismatch.Mismatch.{Mismatch}
-use Rattle.ir_machine.specs.CheckSteps.{on_check, one_step}
+use Rattle.ir_machine.specs.CheckSteps.{free_check_step, on_check, on_checked, on_free, one_step, sized_step, str_step}
+use Rattle.tag_alloc.specs.declared.blocks.FreeMismatch.{FreeMismatch}
 use Rattle.tbi_memory.specs.AddressSpace.{AddressSpace}
 use Rattle.tbi_memory.specs.declared.mem_fault.MemFault.{MemFault}
 use Rattle.tbi_memory.specs.declared.mem_fault.MemFault.TheVariants.{Unmapped, ReadOnly}
-use Rattle.hw_tags.specs.Words.{coming}
-use Rattle.hw_tags.specs.declared.words.Words.{Words}
 use Rattle.hw_tags.specs.TaskRuns.{Goes, Stays, Starts, Finishes, Ends, Stuck}
 use Rattle.ir_core.specs.declared.lib_functions.Lib.{Lib}
 use Rattle.ir_core.specs.declared.lib_functions.Lib.TheVariants as lib
+use Rattle.ir_lib.specs.declared.string_fault.StringFault.{StringFault}
 use Rattle.dbg_sites.specs.ChainTable.{ChainEntry, pushed, numbered, entry_from}
 use Rattle.mi_code.specs.declared.code_functions.CodeFunction.{CodeFunction}
 use Rattle.mi_code.specs.declared.operands.MiOperand.{MiOperand}
@@ -27,20 +28,22 @@ use Rattle.ir_tasks.specs.Frames.{Frame}
 use Rattle.ir_machine.specs.declared.progress.Progress.{Progress}
 use Rattle.ir_machine.specs.declared.progress.Progress.TheVariants.{Ran, Printed, Returned, Ended, NoMemory}
 use Rattle.ir_machine.specs.ArithmeticSteps.{binary_step, icmp_step, cast_step, bits_step, overflow_step, select_step, freeze_step, extract_step, gives_or_traps}
+use Rattle.ir_machine.specs.ByteFunctions.{copy_step, memcmp_step, set_step}
 use Rattle.ir_machine.specs.BranchSteps.{br_step, br_if_step, switch_step, unreachable_step}
-use Rattle.ir_machine.specs.Built.{IsBuiltOp, IsOrdinary, IsBuiltFunction, HasCode}
+use Rattle.ir_machine.specs.Built.{IsBuiltOp, IsOrdinary, IsOtherCheck, IsTextFunction, HasCode}
 use Rattle.ir_machine.specs.CallSteps.{frame_left, last_left, ret_step}
 use Rattle.ir_machine.specs.InstructionStep.{operation_step}
 use Rattle.ir_machine.specs.LibraryCalls.{library_step}
-use Rattle.ir_machine.specs.RunStates.{RunState, AddsChain, AreNext, GrowsByOne, HasDrawn, IsOutcome, left_at}
+use Rattle.ir_machine.specs.RunStates.{RunState, AddsChain, IsOutcome, IsPlainOutcome, left_at}
 use Rattle.ir_machine.specs.State.{MachineSetting, MachineSeen, MachineOutcome, MachineShared}
 use Rattle.ir_machine.specs.AddressSteps.{alloca_step, gep_step}
 use Rattle.ir_machine.specs.MemorySteps.{load_step, number_of_bytes, store_step}
-use Rattle.ir_machine.specs.Operands.{bits_in, bytes_in, pointer_in}
+use Rattle.ir_machine.specs.Operands.{bits_in, bytes_in, int_argument, integer_in, long_argument, pointer_argument, pointer_in}
 use Rattle.ir_machine.specs.declared.found.Found.{Found}
-use Rattle.ir_machine.specs.declared.found.Found.TheVariants.{Memory}
-use Rattle.ir_machine.specs.StepEnds.{chain_known, gives, goes_on, on_bytes, on_memory, refused_at, report_at, traps, with_memory}
-use Rattle.ir_machine.specs.TextFunctions.{putchar_step, exit_step, abort_step}
+use Rattle.ir_machine.specs.declared.found.Found.TheVariants.{Block, Memory}
+use Rattle.ir_machine.specs.StepEnds.{chain_known, gives, gives_to, goes_on, on_bytes, on_memory, prints, refused_at, report_at, traps, with_memory, with_read, with_write}
+use Rattle.ir_machine.specs.TextFunctions.{abort_step, byte_number, exit_step, on_string, putchar_step, puts_step, strlen_step}
+use Rattle.ir_machine.proofs.Outcomes.{from_plain}
 
 length-pushed : (table : List ChainEntry) (rest : ℕ) (site : Site) → length (pushed table rest site).table ≤ length table + 1
 unfolding pushed
@@ -51,13 +54,13 @@ length-pushed table rest site = by (entry_from table site rest 0)
     by None = let more = length_push table (record { site = site; rest = rest }) in omega arith
 
 pub adds-none : (shared : MachineShared) → AddsChain shared shared
-adds-none shared = record { chains = omega arith; births = refl; drawn = refl; stacks_are = refl }
+adds-none shared = record { chains = omega arith; births = refl; drawn = refl; stacks_are = refl; rings_are = refl }
 
 pub adds-site : (s : MachineSeen) (site : Site) → AddsChain s.shared (chain_known s site).shared
-adds-site s site = record { chains = length-pushed s.shared.chains s.frame.chain site; births = refl; drawn = refl; stacks_are = refl }
+adds-site s site = record { chains = length-pushed s.shared.chains s.frame.chain site; births = refl; drawn = refl; stacks_are = refl; rings_are = refl }
 
 adds-memory : (s : MachineSeen) (memory : AddressSpace) → AddsChain s.shared (with_memory s memory).shared
-adds-memory s memory = record { chains = omega arith; births = refl; drawn = refl; stacks_are = refl }
+adds-memory s memory = record { chains = omega arith; births = refl; drawn = refl; stacks_are = refl; rings_are = refl }
 
 -- what the outcome has added to what was shared
 pub AddsAt : MachineShared → MachineOutcome → Type 0
@@ -114,9 +117,64 @@ pub ret-keeps : (setting : MachineSetting) (s : MachineSeen) (value : Option MiO
 unfolding ret_step
 ret-keeps setting s value = frame_left-keeps setting s s.callers _
 
-library-adds : (setting : MachineSetting) (given : Input) (s : MachineSeen) (site : Site) (function : Lib) (to : Option ℕ) (args : List MiOperand) (start : Option ℕ)
-    → IsBuiltFunction function → AddsAt s.shared (library_step setting given s site function to args start)
-unfolding AddsAt putchar_step exit_step abort_step
+pub report-adds : (s : MachineSeen) (site : Site) (access : Access) (size number : ℕ) (found : Found) → AddsAt s.shared (report_at s site access size number found)
+unfolding AddsAt
+report-adds s site access size number found = adds-site s site
+
+pub refused-adds : (s : MachineSeen) (site : Site) (access : Access) (size number : ℕ) (fault : MemFault) → AddsAt s.shared (refused_at s site access size number fault)
+refused-adds s site access size number (Unmapped address) = report-adds s site access size number (Memory (NotMapped address))
+refused-adds s site access size number ReadOnly = traps-add s site ConstantWritten
+
+-- ---- accesses of a step, by what comes after them
+
+bytes-add : (s : MachineSeen) (site : Site) (access : Access) (size number : ℕ) (r : Result (List ℕ) MemFault) (go : List ℕ → MachineOutcome)
+    → ((bytes : List ℕ) → AddsAt s.shared (go bytes)) → AddsAt s.shared (on_bytes s site access size number r go)
+bytes-add s site access size number (Ok bytes) go adds = adds bytes
+bytes-add s site access size number (Err fault) go adds = refused-adds s site access size number fault
+
+memory-adds : (s : MachineSeen) (site : Site) (size number : ℕ) (r : Result AddressSpace MemFault) (go : MachineSeen → MachineOutcome)
+    → ((memory : AddressSpace) → AddsAt s.shared (go (with_memory s memory))) → AddsAt s.shared (on_memory s site size number r go)
+memory-adds s site size number (Ok memory) go adds = adds memory
+memory-adds s site size number (Err fault) go adds = refused-adds s site Write size number fault
+
+gives_to-adds : (before : MachineShared) (s : MachineSeen) (to : Option ℕ) (n : ℕ) → AddsChain before s.shared → AddsAt before (gives_to s to n)
+unfolding AddsAt
+gives_to-adds before s None n adds = adds
+gives_to-adds before s (Some r) n adds = adds
+
+prints-adds : (s : MachineSeen) (to : Option ℕ) (n : ℕ) (bytes : List ℕ) → AddsAt s.shared (prints s to n bytes)
+unfolding AddsAt
+prints-adds s None n bytes = adds-none s.shared
+prints-adds s (Some r) n bytes = adds-none s.shared
+
+string-adds : (s : MachineSeen) (site : Site) (start : ℕ) (go : List ℕ → MachineOutcome) (r : Result (List ℕ) MemFault) → ((bytes : List ℕ) → AddsAt s.shared (go bytes))
+    → AddsAt s.shared (on_string s site start go r)
+string-adds s site start go (Ok bytes) adds = adds bytes
+string-adds s site start go (Err (Unmapped address)) adds = refused-adds s site Read 1 (byte_number start address) (Unmapped address)
+string-adds s site start go (Err ReadOnly) adds = refused-adds s site Read 1 start ReadOnly
+
+copy-adds : (s : MachineSeen) (site : Site) (to : Option ℕ) (target from n : ℕ) → AddsAt s.shared (copy_step s site to target from n)
+unfolding copy_step
+copy-adds s site to target from n =
+    bytes-add s site Read n from _ (λ bytes. with_write s site target bytes (λ after. gives_to after to target))
+    (λ bytes. memory-adds s site (length bytes) target _ (λ after. gives_to after to target)
+    (λ memory. gives_to-adds s.shared (with_memory s memory) to target (adds-memory s memory)))
+
+set-adds : (s : MachineSeen) (site : Site) (to : Option ℕ) (target byte n : ℕ) → AddsAt s.shared (set_step s site to target byte n)
+unfolding set_step
+set-adds s site to target byte n =
+    memory-adds s site n target _ (λ after. gives_to after to target) (λ memory. gives_to-adds s.shared (with_memory s memory) to target (adds-memory s memory))
+
+memcmp-adds : (s : MachineSeen) (site : Site) (to : Option ℕ) (a b n : ℕ) → AddsAt s.shared (memcmp_step s site to a b n)
+unfolding memcmp_step
+memcmp-adds s site to a b n =
+    bytes-add s site Read n a _ (λ first. with_read s site Read n b (λ second. gives_to s to (order_bits (byte_order first second))))
+    (λ first. bytes-add s site Read n b _ (λ second. gives_to s to (order_bits (byte_order first second)))
+    (λ second. gives_to-adds s.shared s to (order_bits (byte_order first second)) (adds-none s.shared)))
+
+pub library-adds : (setting : MachineSetting) (given : Input) (s : MachineSeen) (site : Site) (function : Lib) (to : Option ℕ) (args : List MiOperand) (start : Option ℕ)
+    → IsTextFunction function → AddsAt s.shared (library_step setting given s site function to args start)
+unfolding AddsAt putchar_step exit_step abort_step strlen_step puts_step
 library-adds setting given s site lib.Putchar to args start h = by to
   where
     by : (to : Option ℕ) → AddsAt s.shared (library_step setting given s site lib.Putchar to args start)
@@ -125,15 +183,18 @@ library-adds setting given s site lib.Putchar to args start h = by to
 library-adds setting given s site lib.Exit to args start h = adds-none s.shared
 library-adds setting given s site lib.Abort to args start h = traps-add s site Abort
 library-adds setting given s site lib.LlvmTrap to args start h = traps-add s site Abort
+library-adds setting given s site lib.Strlen to args start h =
+    string-adds s site (pointer_argument s args 0) (λ bytes. gives_to s to (length bytes)) _ (λ bytes. gives_to-adds s.shared s to (length bytes) (adds-none s.shared))
+library-adds setting given s site lib.Puts to args start h =
+    string-adds s site (pointer_argument s args 0) (λ bytes. prints s to 0 (bytes ++ 10 ∷ [])) _ (λ bytes. prints-adds s to 0 (bytes ++ 10 ∷ []))
+library-adds setting given s site lib.Memcpy to args start h = copy-adds s site to (pointer_argument s args 0) (pointer_argument s args 1) (long_argument s args 2)
+library-adds setting given s site lib.Memmove to args start h = copy-adds s site to (pointer_argument s args 0) (pointer_argument s args 1) (long_argument s args 2)
+library-adds setting given s site lib.LlvmMemcpy to args start h = copy-adds s site None (pointer_argument s args 0) (pointer_argument s args 1) (long_argument s args 2)
+library-adds setting given s site lib.LlvmMemmove to args start h = copy-adds s site None (pointer_argument s args 0) (pointer_argument s args 1) (long_argument s args 2)
+library-adds setting given s site lib.Memset to args start h = set-adds s site to (pointer_argument s args 0) (int_argument s args 1) (long_argument s args 2)
+library-adds setting given s site lib.LlvmMemset to args start h = set-adds s site None (pointer_argument s args 0) (int_argument s args 1) (long_argument s args 2)
+library-adds setting given s site lib.Memcmp to args start h = memcmp-adds s site to (pointer_argument s args 0) (pointer_argument s args 1) (long_argument s args 2)
 library-adds setting given s site other to args start h = absurd h
-
-report-adds : (s : MachineSeen) (site : Site) (access : Access) (size number : ℕ) (found : Found) → AddsAt s.shared (report_at s site access size number found)
-unfolding AddsAt
-report-adds s site access size number found = adds-site s site
-
-refused-adds : (s : MachineSeen) (site : Site) (access : Access) (size number : ℕ) (fault : MemFault) → AddsAt s.shared (refused_at s site access size number fault)
-refused-adds s site access size number (Unmapped address) = report-adds s site access size number (Memory (NotMapped address))
-refused-adds s site access size number ReadOnly = traps-add s site ConstantWritten
 
 load-adds : (s : MachineSeen) (site : Site) (to width size number : ℕ) (r : Result (List ℕ) MemFault)
     → AddsAt s.shared (on_bytes s site Read size number r (λ bytes. gives s to (number_of_bytes width bytes)))
@@ -152,6 +213,25 @@ check-adds : (s : MachineSeen) (site : Site) (access : Access) (size number : �
 unfolding AddsAt
 check-adds s site access size number None = tt
 check-adds s site access size number (Some found) = report-adds s site access size number (Memory found)
+
+free-adds : (s : MachineSeen) (site : Site) (number : ℕ) (r : Option FreeMismatch) → AddsAt s.shared (on_free s site number Stuck r)
+unfolding AddsAt
+free-adds s site number None = tt
+free-adds s site number (Some found) = report-adds s site Free 0 number (Block found)
+
+text-adds : (s : MachineSeen) (site : Site) (r : Result (List ℕ) StringFault) → AddsAt s.shared (on_checked s site (λ after. Stuck) r)
+unfolding AddsAt
+text-adds s site (Ok bytes) = tt
+text-adds s site (Err fault) = report-adds s site Read 1 fault.at (Memory fault.found)
+
+-- another check that fails
+pub other_check-adds : (setting : MachineSetting) (given : Input) (site : Site) (s : MachineSeen) (op : MiOp) → IsOtherCheck op
+    → AddsAt s.shared (operation_step setting given site (λ after. Stuck) s op)
+unfolding sized_step str_step free_check_step
+other_check-adds setting given site s (machine.Sized at size access) is = check-adds s site access (integer_in s 64 size) (pointer_in s at) _
+other_check-adds setting given site s (machine.Str at) is = text-adds s site _
+other_check-adds setting given site s (machine.FreeCheck at) is = free-adds s site (pointer_in s at) _
+other_check-adds setting given site s other is = absurd is
 
 -- a check that fails
 pub one-adds : (s : MachineSeen) (site : Site) (at : MiOperand) (size : ℕ) (access : Access) → AddsAt s.shared (one_step s site at size access (λ after. Stuck))
@@ -174,7 +254,6 @@ operation-adds setting given site next s machine.Nop h ordinary = adds-none s.sh
 operation-adds setting given site next s (machine.Jump edge) h ordinary = adds-none s.shared
 operation-adds setting given site next s (machine.Branch cond first second) h ordinary = adds-none s.shared
 operation-adds setting given site next s (machine.Switch width on other cases) h ordinary = adds-none s.shared
-operation-adds setting given site next s (machine.CallLib function to args start) h ordinary = library-adds setting given s site function to args start h
 operation-adds setting given site next s (machine.Ret value) h ordinary = ret-adds setting s value
 operation-adds setting given site next s machine.Unreachable h ordinary = traps-add s site Unreachable
 operation-adds setting given site next s (machine.Alloca to variable) h ordinary = adds-none s.shared
@@ -182,6 +261,10 @@ operation-adds setting given site next s (machine.Gep to base indices) h ordinar
 operation-adds setting given site next s (machine.Load width to at) h ordinary = load-adds s site to (bits_in width) (bytes_in width) (pointer_in s at) _
 operation-adds setting given site next s (machine.Store width value at) h ordinary = store-adds s site _ (pointer_in s at) _
 operation-adds setting given site next s (machine.Call func to args) h ordinary = absurd ordinary
+operation-adds setting given site next s (machine.CallLib function to args start) h ordinary = absurd ordinary
+operation-adds setting given site next s (machine.Sized at size access) h ordinary = absurd ordinary
+operation-adds setting given site next s (machine.Str at) h ordinary = absurd ordinary
+operation-adds setting given site next s (machine.FreeCheck at) h ordinary = absurd ordinary
 operation-adds setting given site next s machine.Leave h ordinary = absurd ordinary
 operation-adds setting given site next s (machine.One at size access) h ordinary = absurd ordinary
 operation-adds setting given site next s other h ordinary = absurd h
@@ -221,6 +304,10 @@ outcome-keeps before outcome Returned v h some keeps = subst (KeepsAt before) h 
 outcome-keeps before outcome Ended v h some keeps = subst (KeepsAt before) h keeps
 outcome-keeps before outcome NoMemory v h some keeps = absurd (some refl)
 
+pub goes_on-keeps : (s : MachineSeen) (progress : Progress) (v : RunState) → IsPlainOutcome (goes_on s) progress v → progress ≢ NoMemory → v.seen.shared ≡ s.shared
+unfolding KeepsAt
+goes_on-keeps s progress v is some = outcome-keeps s.shared (goes_on s) progress v (from_plain (goes_on s) progress v is) some refl
+
 -- the end of a frame with variables
 pub left-adds : (s : MachineSeen) (site : Site) (after : MachineShared) → after ≡ (left_at s site).shared → length after.stacks.tasks ≡ length s.shared.stacks.tasks
     → AddsChain s.shared after
@@ -230,38 +317,5 @@ left-adds s site after is stack =
       births = ap (λ (shared : MachineShared). shared.births) is;
       drawn = ap (λ (shared : MachineShared). shared.drawn) is;
       stacks_are = stack;
+      rings_are = ap (λ (shared : MachineShared). length shared.heap.freed) is;
     }
-
--- ---- with the words
-
--- no word was drawn
-pub draws-none : (words : Words) (before after : ℕ) → after ≡ before → HasDrawn words words before after
-draws-none words before after same =
-    record { count = 0; few = omega arith; drawn = omega (arith, same); rest = λ k. ap (coming words) (more k) }
-  where
-    more : (k : ℕ) → k ≡ k + 0
-    more k = omega arith
-
-pub adds-grow : (words : Words) (before after : MachineShared) → AddsChain before after → GrowsByOne words words before after
-adds-grow words before after adds =
-    let births = adds.births in
-    record { chains = adds.chains; births = omega (arith, births); drawn = draws-none words before.drawn after.drawn adds.drawn; stacks_are = adds.stacks_are }
-
--- a call whose chain was added before its entry
-pub call-grows : (words next : Words) (s : MachineSeen) (site : Site) (entered : MachineShared) → GrowsByOne words next (chain_known s site).shared entered
-    → length entered.chains ≡ length (chain_known s site).shared.chains → GrowsByOne words next s.shared entered
-call-grows words next s site entered grows chains =
-    let few = length-pushed s.shared.chains s.frame.chain site in
-    record { chains = omega (arith, chains, few); births = grows.births; drawn = grows.drawn; stacks_are = grows.stacks_are }
-
--- a call that finds no room
-pub site-grows : (words : Words) (s : MachineSeen) (site : Site) → GrowsByOne words words s.shared (chain_known s site).shared
-site-grows words s site = adds-grow words s.shared (chain_known s site).shared (adds-site s site)
-
--- the words that are left are still those of the setting
-pub next-words : (setting : MachineSetting) (words next : Words) (before after : ℕ) → AreNext setting words before → HasDrawn words next before after
-    → AreNext setting next after
-next-words setting words next before after are drawn k =
-    let n = drawn.drawn in
-    let sum : before + (k + drawn.count) ≡ after + k = omega (arith, n) in
-    drawn.rest k ∙ (are (k + drawn.count) ∙ ap setting.word sum)

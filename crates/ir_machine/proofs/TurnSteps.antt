@@ -1,15 +1,16 @@
 -- A step is that of the instruction where the frame is, and then of those after it.
-use Rattle.std.proofs.Common.{◌≡◌, ◌≢◌, ℕ, zero, suc, ◌+◌, ◌≤◌, List, [], ◌∷◌, drop, length, refl, sym, ap, ◌∙◌, subst, Option, Some, None, arith}
+use Rattle.std.proofs.Common.{◌≡◌, ◌≢◌, ◌⊎◌, inl, inr, ℕ, zero, suc, ◌+◌, ◌≤◌, List, [], ◌∷◌, drop, length, refl, sym, ap, ◌∙◌, subst, Option, Some, None, arith}
 use Rattle.std.specs.Prelude.{slice_get}
 use Rattle.hw_base.specs.declared.endings.Input.{Input}
 use Rattle.hw_base.specs.declared.accesses.Access.{Access}
 use Rattle.hw_tags.specs.TaskRuns.{Stuck}
+use Rattle.ir_core.specs.declared.lib_functions.Lib.{Lib}
 use Rattle.mi_code.specs.declared.operands.MiOperand.{MiOperand}
 use Rattle.mi_code.specs.declared.code_functions.Mi.{Mi}
 use Rattle.mi_code.specs.declared.code_functions.CodeFunction.{CodeFunction}
 use Rattle.mi_code.specs.declared.operations.MiOp.{MiOp}
 use Rattle.mi_code.specs.declared.operations.MiOp.TheVariants as machine
-use Rattle.ir_machine.specs.Built.{IsBuiltAdded, IsBuiltOp, IsOrdinary, IsPlainAfter, IsPlainFrom, IsPlainOp}
+use Rattle.ir_machine.specs.Built.{IsBuiltAdded, IsBuiltOp, IsOrdinary, IsOtherCheck, IsPlainAfter, IsPlainFrom, IsPlainOp}
 use Rattle.ir_machine.specs.CallSteps.{code_at}
 use Rattle.ir_machine.specs.InstructionStep.{steps_within, marked_step}
 use Rattle.ir_machine.specs.State.{MachineSetting, MachineSeen, MachineOutcome}
@@ -90,15 +91,28 @@ plain-here insts place mi found plain = subst IsPlainFrom (drop-at insts place m
 -- an ordinary instruction takes no memory if it is one of those that don't
 pub plain-after : (op : MiOp) (rest : Type 0) → IsOrdinary op → IsPlainAfter op rest → IsPlainOp op
 plain-after (machine.One at size access) rest ordinary plain = absurd ordinary
+plain-after (machine.Sized at size access) rest ordinary plain = absurd ordinary
 plain-after op rest ordinary plain = plain
 
 -- what is no check, no call and no end of a frame
 pub ordinary : (op : MiOp) → ((at : MiOperand) (size : ℕ) (access : Access) → op ≡ machine.One at size access → ⊥)
-    → ((func : ℕ) (to : Option ℕ) (args : List MiOperand) → op ≡ machine.Call func to args → ⊥) → (op ≡ machine.Leave → ⊥) → IsOrdinary op
-ordinary (machine.One at size access) no_check no_call no_leave = no_check at size access refl
-ordinary (machine.Call func to args) no_check no_call no_leave = no_call func to args refl
-ordinary machine.Leave no_check no_call no_leave = no_leave refl
-ordinary op no_check no_call no_leave = tt
+    → ((at size : MiOperand) (access : Access) → op ≡ machine.Sized at size access → ⊥) → ((at : MiOperand) → op ≡ machine.Str at → ⊥) → ((at : MiOperand) → op ≡ machine.FreeCheck at → ⊥)
+    → ((func : ℕ) (to : Option ℕ) (args : List MiOperand) → op ≡ machine.Call func to args → ⊥)
+    → ((lib : Lib) (to : Option ℕ) (args : List MiOperand) (start : Option ℕ) → op ≡ machine.CallLib lib to args start → ⊥) → (op ≡ machine.Leave → ⊥) → IsOrdinary op
+ordinary (machine.One at size access) no_check no_sized no_str no_free no_call no_lib no_leave = no_check at size access refl
+ordinary (machine.Sized at size access) no_check no_sized no_str no_free no_call no_lib no_leave = no_sized at size access refl
+ordinary (machine.Str at) no_check no_sized no_str no_free no_call no_lib no_leave = no_str at refl
+ordinary (machine.FreeCheck at) no_check no_sized no_str no_free no_call no_lib no_leave = no_free at refl
+ordinary (machine.Call func to args) no_check no_sized no_str no_free no_call no_lib no_leave = no_call func to args refl
+ordinary (machine.CallLib lib to args start) no_check no_sized no_str no_free no_call no_lib no_leave = no_lib lib to args start refl
+ordinary machine.Leave no_check no_sized no_str no_free no_call no_lib no_leave = no_leave refl
+ordinary op no_check no_sized no_str no_free no_call no_lib no_leave = tt
+
+pub other-check : (op : MiOp) → ((at : MiOperand) × (size : MiOperand) × (access : Access) × (op ≡ machine.Sized at size access))
+    ⊎ (((at : MiOperand) × (op ≡ machine.Str at)) ⊎ ((at : MiOperand) × (op ≡ machine.FreeCheck at))) → IsOtherCheck op
+other-check op (inl (at, size, access, is)) = subst IsOtherCheck (sym is) tt
+other-check op (inr (inl (at, is))) = subst IsOtherCheck (sym is) tt
+other-check op (inr (inr (at, is))) = subst IsOtherCheck (sym is) tt
 
 pub built-ordinary : (op : MiOp) → IsBuiltAdded op → IsOrdinary op → IsBuiltOp op
 built-ordinary machine.Leave built other = absurd other

@@ -1,5 +1,5 @@
--- The instructions that the machine runs today: not those of blocks and tasks, with the widths that they can have; and what the
--- code of a run is. This project's choice.
+-- The instructions that the machine runs today: not those of tasks and of input, with the widths that they can have; and what the code
+-- of a run is. This project's choice.
 use Rattle.std.specs.Prelude.{◌≡◌, ◌≤◌, ◌<◌, ◌^◌, List, [], ◌∷◌, drop, length, All}
 use Rattle.hw_base.specs.ByteSwap.{HasPairs}
 use Rattle.hw_base.specs.declared.numbers.TheConstants.{MOST_FRAMES}
@@ -20,13 +20,34 @@ use Rattle.ir_machine.specs.CallSteps.{code_at}
 use Rattle.ir_machine.specs.Operands.{bits_in}
 use Rattle.ir_machine.specs.State.{MachineSetting}
 
+-- library functions on runs of bytes
+abbrev pub IsByteFunction : Lib → Type 0
+IsByteFunction lib.Memcpy = Unit {0}
+IsByteFunction lib.Memmove = Unit {0}
+IsByteFunction lib.Memset = Unit {0}
+IsByteFunction lib.LlvmMemcpy = Unit {0}
+IsByteFunction lib.LlvmMemmove = Unit {0}
+IsByteFunction lib.LlvmMemset = Unit {0}
+IsByteFunction lib.Memcmp = Unit {0}
+IsByteFunction other = ⊥
+
+-- library functions that the machine runs and that have no blocks: those on bytes, on strings and output, and ends of the program
+abbrev pub IsTextFunction : Lib → Type 0
+IsTextFunction lib.Strlen = Unit {0}
+IsTextFunction lib.Puts = Unit {0}
+IsTextFunction lib.Putchar = Unit {0}
+IsTextFunction lib.Exit = Unit {0}
+IsTextFunction lib.Abort = Unit {0}
+IsTextFunction lib.LlvmTrap = Unit {0}
+IsTextFunction other = IsByteFunction other
+
 -- library functions that the machine runs
 abbrev pub IsBuiltFunction : Lib → Type 0
-IsBuiltFunction lib.Putchar = Unit {0}
-IsBuiltFunction lib.Exit = Unit {0}
-IsBuiltFunction lib.Abort = Unit {0}
-IsBuiltFunction lib.LlvmTrap = Unit {0}
-IsBuiltFunction other = ⊥
+IsBuiltFunction lib.Malloc = Unit {0}
+IsBuiltFunction lib.Calloc = Unit {0}
+IsBuiltFunction lib.Realloc = Unit {0}
+IsBuiltFunction lib.Free = Unit {0}
+IsBuiltFunction other = IsTextFunction other
 
 -- an index of an address has a width
 abbrev pub IsBuiltStep : IndexStep → Type 0
@@ -36,6 +57,9 @@ IsBuiltStep (Offset off) = Unit {0}
 abbrev pub IsBuiltOp : MiOp → Type 0
 IsBuiltOp (machine.Alloca to variable) = Unit {0}
 IsBuiltOp (machine.One at size access) = 1 ≤ size
+IsBuiltOp (machine.Sized at size access) = Unit {0}
+IsBuiltOp (machine.Str at) = Unit {0}
+IsBuiltOp (machine.FreeCheck at) = Unit {0}
 IsBuiltOp (machine.Gep to base indices) = All IsBuiltStep indices
 IsBuiltOp (machine.Load width to at) = IsWidth (bits_in width)
 IsBuiltOp (machine.Store width value at) = IsWidth (bits_in width)
@@ -61,8 +85,19 @@ IsBuiltOp other = ⊥
 abbrev pub IsOrdinary : MiOp → Type 0
 IsOrdinary machine.Leave = ⊥
 IsOrdinary (machine.One at size access) = ⊥
+IsOrdinary (machine.Sized at size access) = ⊥
+IsOrdinary (machine.Str at) = ⊥
+IsOrdinary (machine.FreeCheck at) = ⊥
 IsOrdinary (machine.Call func to args) = ⊥
+IsOrdinary (machine.CallLib function to args start) = ⊥
 IsOrdinary op = Unit {0}
+
+-- a check other than that of one granule
+abbrev pub IsOtherCheck : MiOp → Type 0
+IsOtherCheck (machine.Sized at size access) = Unit {0}
+IsOtherCheck (machine.Str at) = Unit {0}
+IsOtherCheck (machine.FreeCheck at) = Unit {0}
+IsOtherCheck other = ⊥
 
 -- an instruction that is added before one of the source: the end of a frame with variables too
 abbrev pub IsBuiltAdded : MiOp → Type 0
@@ -133,6 +168,7 @@ IsPlainOp other = ⊥
 -- such an instruction follows, after checks alone
 abbrev pub IsPlainAfter : MiOp → Type 0 → Type 0
 IsPlainAfter (machine.One at size access) rest = rest
+IsPlainAfter (machine.Sized at size access) rest = rest
 IsPlainAfter op rest = IsPlainOp op
 
 abbrev pub IsPlainFrom : List Mi → Type 0

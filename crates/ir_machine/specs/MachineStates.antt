@@ -1,5 +1,5 @@
 -- What the machine has between two steps, the world that it shows, and what a step returns. This project's choice.
-use Rattle.std.specs.Prelude.{◌≡◌, ℕ, ◌+◌, ◌≤◌, false, List, [], ◌∷◌, length, Result, Ok, Err, Bool, true}
+use Rattle.std.specs.Prelude.{◌≡◌, ℕ, ◌+◌, ◌*◌, ◌≤◌, false, List, [], ◌∷◌, length, Result, Ok, Err, Bool, true}
 use Rattle.std.specs.Int.{w32, cast_signed}
 use Rattle.hw_base.specs.declared.out_of_memory.OutOfMemory.{OutOfMemory}
 use Rattle.hw_tags.specs.TaskRuns.{Next, Last, NoStep}
@@ -42,15 +42,16 @@ world_of m =
       turns = 0;
     }
 
--- a machine that can make a step: the code is one that it runs, the variables are small, and there is a chain a step, and a birth and
--- a word a step, beside those of the globals and of `main`, at most
+-- a machine that can make a step: the code is one that it runs, the variables are small, and there are two chains, a birth and two
+-- words a step, beside those of the globals and of `main`, at most
 pub record IsReady (m : MachineState) : Type 0 where
   pub built : IsBuiltCode m.program.code
   pub small : AreSmall m.program
-  pub chains : m.lost ≡ false → length m.run.seen.shared.chains ≤ m.steps
+  pub chains : m.lost ≡ false → length m.run.seen.shared.chains ≤ 2 * m.steps
   pub births : m.lost ≡ false → m.run.seen.shared.births ≤ m.steps + 2
-  pub drawn : m.lost ≡ false → m.run.seen.shared.drawn ≤ m.steps + 2
+  pub drawn : m.lost ≡ false → m.run.seen.shared.drawn ≤ 2 * m.steps + 2
   pub stack : m.lost ≡ false → 1 ≤ length m.run.seen.shared.stacks.tasks
+  pub ring : m.lost ≡ false → 1 ≤ length m.run.seen.shared.heap.freed
 
 -- how the run ended, and what the step returned
 abbrev pub IsEnd : MachineEnding → Stepped → Type 0

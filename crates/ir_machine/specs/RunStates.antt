@@ -42,14 +42,14 @@ ending_of (Trap trap task chain) = Trapped trap task chain
 ending_of (Report raw) = Reported raw
 ending_of (Full full) = IsFull full
 
--- what all tasks share while there is no block: memory and the globals in it, the frames with variables, so many births and words
--- drawn, and these chains, for a heap of so many bytes
-abbrev pub shared_of : AddressSpace → List Descriptor → stacks.StacksState → (births drawn heap ring : ℕ) → List ChainEntry → MachineShared
-shared_of memory globals frames births drawn heap ring chains =
+-- what all tasks share while no input is taken: memory and the globals in it, the blocks, the frames with variables, so many births
+-- and words drawn, and these chains
+abbrev pub shared_of : AddressSpace → List Descriptor → blocks.HeapState → stacks.StacksState → (births drawn : ℕ) → List ChainEntry → MachineShared
+shared_of memory globals heap frames births drawn chains =
     record {
       memory = memory;
       globals = globals;
-      heap = blocks.with_task (blocks.heap_at_start (program_map heap) ring);
+      heap = heap;
       stacks = frames;
       chains = chains;
       births = births;
@@ -62,8 +62,8 @@ abbrev pub loaded_module : Module → Options → MachineShared
 loaded_module m options =
     shared_of (loaded (program_map options.heap) m.layouts m.globals (word options.tags 0))
     (descriptors_of (program_map options.heap) m.layouts m.globals (word options.tags 0))
-    (stacks.with_task (stacks.stacks_at_start (program_map options.heap) options.ring)) (global_births m.globals) (global_words m.globals)
-    options.heap options.ring []
+    (blocks.with_task (blocks.heap_at_start (program_map options.heap) options.ring))
+    (stacks.with_task (stacks.stacks_at_start (program_map options.heap) options.ring)) (global_births m.globals) (global_words m.globals) []
 
 -- what a step of the only task sees
 abbrev pub only_task : MachineShared → Calls → (step : ℕ) → MachineSeen
@@ -128,11 +128,12 @@ left_at s site = advanced (stacks_set (chain_known s site) (left s.shared.stacks
 abbrev pub AreNext : MachineSetting → Words → (drawn : ℕ) → Type 0
 AreNext setting words drawn = (k : ℕ) → coming words k ≡ setting.word (drawn + k)
 
--- there is a stack, and room for one birth and one word more
+-- there is a stack and a ring of freed blocks, and room for one birth and two words more
 pub record HasRoom (shared : MachineShared) : Type 0 where
   pub births : shared.births < 2 ^ 32 - 1
-  pub drawn : shared.drawn < 2 ^ 64 - 1
+  pub drawn : shared.drawn < 2 ^ 64 - 2
   pub stack : 1 ≤ length shared.stacks.tasks
+  pub ring : 1 ≤ length shared.heap.freed
 
 -- what a step has added, by what is shared before and after it: one chain at most, no birth, and no word was drawn
 pub record AddsChain (before after : MachineShared) : Type 0 where
@@ -140,17 +141,23 @@ pub record AddsChain (before after : MachineShared) : Type 0 where
   pub births : after.births ≡ before.births
   pub drawn : after.drawn ≡ before.drawn
   pub stacks_are : length after.stacks.tasks ≡ length before.stacks.tasks
+  pub rings_are : length after.heap.freed ≡ length before.heap.freed
 
--- at most one word was drawn
-pub record HasDrawn (words next : Words) (before after : ℕ) : Type 0 where
+-- at most so many words were drawn
+pub record HasDrawn (most : ℕ) (words next : Words) (before after : ℕ) : Type 0 where
   pub count : ℕ
-  pub few : count ≤ 1
+  pub few : count ≤ most
   pub drawn : after ≡ before + count
   pub rest : (k : ℕ) → coming next k ≡ coming words (k + count)
 
--- at most one chain and one birth were added, and one word was drawn
-pub record GrowsByOne (words next : Words) (before after : MachineShared) : Type 0 where
-  pub chains : length after.chains ≤ length before.chains + 1
-  pub births : after.births ≤ before.births + 1
-  pub drawn : HasDrawn words next before.drawn after.drawn
+-- at most so many chains and births were added and words drawn
+pub record Grows (more_chains more_births most : ℕ) (words next : Words) (before after : MachineShared) : Type 0 where
+  pub chains : length after.chains ≤ length before.chains + more_chains
+  pub births : after.births ≤ before.births + more_births
+  pub drawn : HasDrawn most words next before.drawn after.drawn
   pub stacks_are : length after.stacks.tasks ≡ length before.stacks.tasks
+  pub rings_are : length after.heap.freed ≡ length before.heap.freed
+
+-- what a step adds at most
+abbrev pub GrowsLittle : (words next : Words) (before after : MachineShared) → Type 0
+GrowsLittle words next before after = Grows 2 1 2 words next before after

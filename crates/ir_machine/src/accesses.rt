@@ -1,14 +1,10 @@
-ghost use Rattle.std.specs.Prelude.{◌≡◌, ℕ, ◌+◌, ◌-◌, ◌*◌, ◌^◌, ◌<◌, ◌≤◌, length, None};
-ghost use Rattle.std.specs.Option.{ForSome};
+ghost use Rattle.std.specs.Prelude.{◌≡◌, ℕ, ◌+◌, ◌-◌, ◌*◌, ◌^◌, ◌<◌, ◌≤◌, length};
 ghost use Rattle.ir_core.specs.Externals.{IsWidth};
-ghost use Rattle.ir_machine.specs.CheckSteps.{one_step};
 ghost use Rattle.ir_machine.specs.MemorySteps.{load_step, store_step};
 ghost use Rattle.ir_machine.specs.Operands.{bits_in, bytes_in};
-ghost use Rattle.ir_machine.specs.RunStates.{IsPlainOutcome, passed};
-ghost use Rattle.ir_machine.specs.State.{MachineSeen, MachineOutcome};
+ghost use Rattle.ir_machine.specs.RunStates.{IsPlainOutcome};
 
 use crate::arithmetic::bits_in;
-use crate::found::Found;
 use crate::progress::Progress;
 use crate::run::Run;
 use hw_base::{Access, Site};
@@ -27,38 +23,6 @@ fn bytes_in(width: Width) -> u32
 }
 
 impl Run {
-    /// The check of an access of so many bytes in the granule of its address ("Memory accesses"). The result is none if it passes,
-    /// and the task is at the next instruction then.
-    #[inline(always)]
-    #[tactic(auto, unfolding(crate::specs::CheckSteps::one_step))]
-    pub fn check_one(
-        &mut self,
-        site: Site,
-        at: &MiOperand,
-        n: u32,
-        access: Access,
-    ) -> Option<Progress>
-        requires some { 1 ≤ n }
-        requires place { self.old.seen.frame.place + 1 < 2 ^ 64 }
-        requires chains { length self.old.seen.shared.chains < 2 ^ 32 - 1 }
-        ensures passed { result ≡ None → self.new ≡ passed self.old }
-        ensures passes { result ≡ None → (next : MachineSeen → MachineOutcome)
-            → one_step self.old.seen site at.now n access next ≡ next self.new.seen }
-        ensures fails { ForSome result (λ progress. (next : MachineSeen → MachineOutcome)
-            → IsPlainOutcome (one_step self.old.seen site at.now n access next) progress self.new) }
-    {
-        let number = self.pointer(at);
-        match self.memory.check_one(number, n as u64) {
-            None => {
-                self.go_to(self.place() + 1);
-                None
-            }
-            Some(found) => {
-                Some(self.report(site, access, n as u64, number, Found::Memory(found)))
-            }
-        }
-    }
-
     /// A load of an integer or a pointer ("'load' Instruction").
     #[tactic(auto, unfolding(crate::specs::MemorySteps::load_step))]
     pub fn load(&mut self, site: Site, width: Width, to: u32, at: &MiOperand) -> Progress

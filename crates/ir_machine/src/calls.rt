@@ -8,7 +8,7 @@ ghost use Rattle.ir_machine.specs.State.{MachineSetting, IsFull};
 ghost use Rattle.ir_machine.specs.Operands.{number_in, numbers_in};
 ghost use Rattle.ir_machine.specs.Programs.{AreSmall, HasProgram};
 ghost use Rattle.ir_machine.specs.StepEnds.{chain_at, chain_known, ends};
-ghost use Rattle.ir_machine.specs.RunStates.{AreNext, GrowsByOne, HasRoom, IsOutcome, with_frame};
+ghost use Rattle.ir_machine.specs.RunStates.{AreNext, Grows, GrowsLittle, HasRoom, IsOutcome, with_frame};
 ghost use Rattle.ir_machine.specs.CallSteps.{code_at, begins_with_entry, call_register, entry_of, frame_for, returned_to, entered_call, call_step, ret_step, returned_number, with_arguments};
 
 use crate::program::Program;
@@ -121,8 +121,7 @@ impl Run {
         ensures entry { IfOk result (λ place. (setting : MachineSetting) → HasProgram setting program.now → AreNext setting words.old self.old.seen.shared.drawn
             → entry_of setting 0 func chain self.old.seen.shared ≡ Ok (record { shared = self.new.seen.shared; place = place })) }
         ensures shared { OnOk result (self.new ≡ record self.old { seen = record self.old.seen { shared = self.new.seen.shared } }) }
-        ensures grows { OnOk result (GrowsByOne words.old words.new self.old.seen.shared self.new.seen.shared) }
-        ensures chains { OnOk result (length self.new.seen.shared.chains ≡ length self.old.seen.shared.chains) }
+        ensures grows { OnOk result (Grows 0 1 1 words.old words.new self.old.seen.shared self.new.seen.shared) }
         ensures full { (full : NoRoom) → result ≡ Err (EnterError.Full full) → (setting : MachineSetting) → HasProgram setting program.now
             → AreNext setting words.old self.old.seen.shared.drawn → entry_of setting 0 func chain self.old.seen.shared ≡ Err full }
         ensures stays { (error : EnterError) → result ≡ Err error → self.new ≡ self.old }
@@ -192,7 +191,7 @@ impl Run {
         requires small { AreSmall program.now }
         ensures step { (setting : MachineSetting) → HasProgram setting program.now → AreNext setting words.old self.old.seen.shared.drawn
             → IsOutcome (entered_call setting (chain_known self.old.seen site) func (numbers_in self.old.seen args.now) (chain_at self.old.seen site)) result self.new }
-        ensures grows { result ≢ Progress.NoMemory → GrowsByOne words.old words.new self.old.seen.shared self.new.seen.shared }
+        ensures grows { result ≢ Progress.NoMemory → GrowsLittle words.old words.new self.old.seen.shared self.new.seen.shared }
     {
         match self.read_arguments(args.as_slice(), numbers) {
             Ok(()) => {}
@@ -228,7 +227,7 @@ impl Run {
         requires small { AreSmall program.now }
         ensures step { (setting : MachineSetting) → HasProgram setting program.now → AreNext setting words.old self.old.seen.shared.drawn
             → IsOutcome (call_step setting self.old.seen site func args.now) result self.new }
-        ensures grows { result ≢ Progress.NoMemory → GrowsByOne words.old words.new self.old.seen.shared self.new.seen.shared }
+        ensures grows { result ≢ Progress.NoMemory → GrowsLittle words.old words.new self.old.seen.shared self.new.seen.shared }
     {
         if self.depth() >= MOST_FRAMES as u64 {
             return self.trap(site, Trap::TooDeep);

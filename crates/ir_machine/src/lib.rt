@@ -7,13 +7,17 @@
 mod accesses;
 mod addresses;
 mod arithmetic;
+mod blocks;
 mod branches;
+mod byte_functions;
 mod calls;
+mod checks;
 mod examples;
 mod found;
 mod frames;
 mod further_examples;
 mod laws;
+mod library;
 mod machine;
 mod operations;
 mod program;

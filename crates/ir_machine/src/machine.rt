@@ -18,7 +18,7 @@ use mi_code::Code;
 use std::alloc::Global;
 use std::marker::Model;
 
-/// A run of instrumented code, step by step. The instructions that it runs are not yet those of blocks and of tasks.
+/// A run of instrumented code, step by step. The instructions that it runs are not yet those of tasks and of input.
 #[derive(Drop)]
 pub struct Machine {
     program: Program,

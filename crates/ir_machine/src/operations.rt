@@ -1,42 +1,16 @@
-ghost use Rattle.std.specs.Prelude.{◌≡◌, ℕ, ◌+◌, ◌-◌, ◌^◌, ◌<◌, length, Option};
+ghost use Rattle.std.specs.Prelude.{◌≡◌, ℕ, ◌+◌, ◌-◌, ◌^◌, ◌<◌, length};
 ghost use Rattle.hw_base.specs.declared.endings.Input.{Input};
-ghost use Rattle.ir_machine.specs.Built.{IsBuiltOp, IsBuiltFunction, IsOrdinary, IsPlainOp, HasCode};
+ghost use Rattle.ir_machine.specs.Built.{IsBuiltOp, IsOrdinary, IsPlainOp, HasCode};
 ghost use Rattle.ir_machine.specs.InstructionStep.{operation_step};
-ghost use Rattle.ir_machine.specs.LibraryCalls.{library_step};
 ghost use Rattle.ir_machine.specs.RunStates.{IsOutcome, IsPlainOutcome};
 ghost use Rattle.ir_machine.specs.State.{MachineSetting, MachineSeen, MachineOutcome};
 
 use crate::progress::Progress;
 use crate::run::Run;
 use hw_base::Site;
-use ir_core::Lib;
-use mi_code::{Code, MiOp, MiOperandList};
+use mi_code::{Code, MiOp};
 
-/// The call of a library function.
-#[tactic(auto, using(crate::proofs::Outcomes::from_plain))]
-fn library(
-    run: &mut Run,
-    site: Site,
-    function: Lib,
-    to: Option<u32>,
-    args: &MiOperandList,
-) -> Progress
-    requires built { IsBuiltFunction function }
-    requires place { run.old.seen.frame.place + 1 < 2 ^ 64 }
-    requires chains { length run.old.seen.shared.chains < 2 ^ 32 - 1 }
-    ensures { (setting : MachineSetting) (given : Input) (start : Option ℕ)
-        → IsOutcome (library_step setting given run.old.seen site function to args.now start) result run.new }
-{
-    match function {
-        Lib::Putchar => run.putchar(to, args),
-        Lib::Exit => run.exit(args),
-        Lib::Abort => run.abort(site),
-        Lib::LlvmTrap => run.abort(site),
-        _ => unreachable!(),
-    }
-}
-
-/// The step of an instruction at a site, which is no check, no call and no end of a frame with variables.
+/// The step of an instruction at a site, which is no check, no call of a function and no end of a frame with variables.
 #[tactic(auto, using(crate::proofs::Outcomes::from_plain))]
 pub fn operation(
     code: &Code,
@@ -106,7 +80,6 @@ pub fn operation(
             other,
             cases,
         } => run.switch(*width, on, other, cases, numbers),
-        MiOp::CallLib { lib, to, args, .. } => library(run, site, *lib, *to, args),
         MiOp::Ret { value } => run.ret(code, value),
         MiOp::Unreachable => run.unreachable(site),
         _ => unreachable!(),

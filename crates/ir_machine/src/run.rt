@@ -4,37 +4,38 @@ ghost use Rattle.hw_tags.specs.Words.{AreWordsFrom, coming};
 ghost use Rattle.global_tags.specs.GlobalPlaces.{global_words};
 ghost use Rattle.ir_machine.specs.Start.{global_births};
 
+use crate::arithmetic::argument_at;
 use crate::found::{Found, Raw};
 use crate::progress::{Ending, Progress};
 use dbg_sites::Chains;
 use global_tags::{Descriptors, global_number, layout, load};
-use hw_base::{Access, OutOfMemory, Site, Trap};
+use hw_base::{Access, HEAP_AT, OutOfMemory, Site, Trap};
 use hw_tags::{Options, Words};
 use ir_arith::wrap;
 use ir_core::Module;
 use ir_tasks::CallStack;
-use mi_code::MiOperand;
+use mi_code::{MiOperand, MiOperandList};
 use stack_tags::Stacks;
 use std::alloc::Global;
 use std::marker::Model;
+use tag_alloc::Heap;
 use tbi_memory::{MemFault, Memory, Mismatch};
 
-/// What a run has in hand: the frames of its task, memory and where the globals lie in it, the frames with variables, the numbers
-/// of births and of drawn words, the chains of sites, the number of the step, what the last step printed, and how the run ended if
-/// it has.
+/// What a run has in hand: the frames of its task, memory and where the globals lie in it, the heap's blocks, the frames with
+/// variables, the numbers of births and of drawn words, the chains of sites, the number of the step, what the last step printed,
+/// and how the run ended if it has.
 #[derive(Drop)]
 pub struct Run {
     pub(crate) calls: CallStack,
     pub(crate) memory: Memory,
     globals: Descriptors,
+    pub(crate) heap: Heap,
     pub(crate) stacks: Stacks,
     pub(crate) births: u32,
     pub(crate) drawn: u64,
     pub(crate) chains: Chains,
     step: u64,
-    heap: u64,
-    ring: u32,
-    printed: Vec<u8>,
+    pub(crate) printed: Vec<u8>,
     ending: Ending,
 }
 
@@ -44,7 +45,7 @@ impl Model for Run {
     ghost Value = { RunState };
 
     ghost view = { λ r. record {
-      seen = only_task (shared_of r.memory r.globals r.stacks r.births r.drawn r.heap r.ring r.chains) r.calls r.step;
+      seen = only_task (shared_of r.memory r.globals r.heap.state r.stacks r.births r.drawn r.chains) r.calls r.step;
       printed = r.printed.items;
       ending = ending_of r.ending;
     } };
@@ -60,7 +61,7 @@ fn first_births(program: &Module) -> u32
 impl Run {
     ghost use Rattle.global_tags.specs.Loading.{CanBeLoaded};
     ghost use Rattle.ir_machine.specs.State.{MachineSeen};
-    ghost use Rattle.ir_machine.specs.Operands.{number_in, integer_in, pointer_in, second_part};
+    ghost use Rattle.ir_machine.specs.Operands.{number_in, int_argument, integer_in, long_argument, pointer_argument, pointer_in, second_part};
     ghost use Rattle.ir_tasks.specs.Frames.{at_place};
     ghost use Rattle.ir_machine.specs.StepEnds.{gives, goes_on, traps, ends, prints, with_number, with_result, chain_known, chain_at, report_at, refused_at};
     ghost use Rattle.ir_machine.specs.CallSteps.{last_left};
@@ -68,7 +69,7 @@ impl Run {
     ghost use Rattle.ir_machine.specs.RunStates.{IsOutcome, IsPlainOutcome, with_frame, ending_of, first_state, loaded_module};
 
     /// A run of a module that begins with a function, whose frame has so many registers: its globals are in memory, for which
-    /// a word was drawn if there are any. No frame with variables was entered, and no step was made.
+    /// a word was drawn if there are any. There is no block, no frame with variables was entered, and no step was made.
     pub fn new(
         alloc: Global,
         program: &Module,
@@ -84,6 +85,8 @@ impl Run {
     {
         let mut memory = Memory::new(alloc, &layout(program, options.heap))?;
         let globals = load(alloc, program, &mut memory, words)?;
+        let mut heap = Heap::new(alloc, HEAP_AT, options.heap, options.ring)?;
+        heap.add_task()?;
         let mut stacks = Stacks::new(alloc, options.ring);
         stacks.add_task()?;
         let births = first_births(program);
@@ -91,13 +94,12 @@ impl Run {
             calls: CallStack::new(alloc, func, registers, 0, 0)?,
             memory,
             globals,
+            heap,
             stacks,
             births,
             drawn: births as u64,
             chains: Chains::new(alloc),
             step: 0,
-            heap: options.heap,
-            ring: options.ring,
             printed: Vec::new(alloc),
             ending: Ending::Exit(0),
         })
@@ -141,6 +143,27 @@ impl Run {
             MiOperand::Reg(r) => self.calls.register(r as usize + 1),
             _ => 0,
         }
+    }
+
+    /// The argument of a call that is number `k`, from 0, in 64 bits.
+    pub fn long_argument(&self, args: &MiOperandList, k: u64) -> u64
+        ensures { result ≡ long_argument self.now.seen args.now k }
+    {
+        self.integer(64, &argument_at(args, k)) as u64
+    }
+
+    /// The argument of a call that is number `k`, from 0, as a pointer.
+    pub fn pointer_argument(&self, args: &MiOperandList, k: u64) -> u64
+        ensures { result ≡ pointer_argument self.now.seen args.now k }
+    {
+        self.pointer(&argument_at(args, k))
+    }
+
+    /// The argument of a call that is number `k`, from 0, in 32 bits.
+    pub fn int_argument(&self, args: &MiOperandList, k: u64) -> u32
+        ensures { result ≡ int_argument self.now.seen args.now k }
+    {
+        self.integer(32, &argument_at(args, k)) as u32
     }
 
     /// A register of the frame that runs has a number.

@@ -8,10 +8,12 @@ ghost use Rattle.ir_machine.specs.Built.{HasCode, HasReturns, IsBuilt, IsBuiltCo
 ghost use Rattle.ir_machine.specs.CallSteps.{code_at};
 ghost use Rattle.ir_machine.specs.InstructionStep.{machine_step, marked_step, operation_step, steps_within};
 ghost use Rattle.ir_machine.specs.Programs.{AreSmall, HasProgram};
-ghost use Rattle.ir_machine.specs.RunStates.{AddsChain, AreNext, GrowsByOne, HasRoom, IsOutcome, IsPlainOutcome, left_at, passed};
+ghost use Rattle.ir_machine.specs.RunStates.{AddsChain, AreNext, GrowsLittle, HasRoom, IsOutcome, IsPlainOutcome, left_at, passed};
 ghost use Rattle.ir_machine.specs.State.{MachineSetting, MachineSeen, MachineOutcome};
 
 use crate::calls::instructions_of;
+use crate::checks::other_check;
+use crate::library::library;
 use crate::operations::operation;
 use crate::program::Program;
 use crate::progress::Progress;
@@ -99,7 +101,7 @@ fn instruction(
     requires small { AreSmall program.now }
     requires task { run.old.seen.task ≡ 0 }
     requires place { run.old.seen.frame.place + 1 < 2 ^ 64 }
-    requires chains { length run.old.seen.shared.chains < 2 ^ 32 - 1 }
+    requires chains { length run.old.seen.shared.chains < 2 ^ 32 - 2 }
     requires room { HasRoom run.old.seen.shared }
     ensures passed { result ≡ None → run.new ≡ passed run.old }
     ensures words { result ≡ None → words.new ≡ words.old }
@@ -112,16 +114,20 @@ fn instruction(
         → IsOutcome (marked_step setting given (steps_within setting given fuel) run.old.seen mi.now.mark mi.now.op) progress run.new) }
     ensures plain { ForSome result (λ progress. (setting : MachineSetting) (given : Input) (next : MachineSeen → MachineOutcome) (insts : List Mi) → IsPlainAfter mi.now.op (IsPlainFrom insts)
         → IsPlainOutcome (marked_step setting given next run.old.seen mi.now.mark mi.now.op) progress run.new) }
-    ensures grows { ForSome result (λ progress. progress ≢ Progress.NoMemory → GrowsByOne words.old words.new run.old.seen.shared run.new.seen.shared) }
+    ensures grows { ForSome result (λ progress. progress ≢ Progress.NoMemory → GrowsLittle words.old words.new run.old.seen.shared run.new.seen.shared) }
 {
     let Some(site) = site_of(mi) else {
         return Some(Progress::Ran);
     };
     match &mi.op {
         MiOp::One { at, n, access } => run.check_one(site, at, *n, *access),
+        MiOp::Sized { .. } | MiOp::Str { .. } | MiOp::FreeCheck { .. } => other_check(
+            run, site, &mi.op,
+        ),
         MiOp::Call { func, args, .. } => {
             Some(run.call(program, words, site, *func, args, numbers))
         }
+        MiOp::CallLib { lib, to, args, .. } => Some(library(run, words, site, *lib, *to, args)),
         MiOp::Leave => Some(leave_and_return(&program.code, run, site, insts)),
         _ => Some(operation(&program.code, run, numbers, site, &mi.op)),
     }
@@ -142,14 +148,14 @@ fn instructions(
     requires returns { HasReturns insts.now }
     requires small { AreSmall program.now }
     requires task { run.old.seen.task ≡ 0 }
-    requires chains { length run.old.seen.shared.chains < 2 ^ 32 - 1 }
+    requires chains { length run.old.seen.shared.chains < 2 ^ 32 - 2 }
     requires room { HasRoom run.old.seen.shared }
     ensures step { (setting : MachineSetting) (given : Input) → HasProgram setting program.now → AreNext setting words.old run.old.seen.shared.drawn
         → steps_within setting given (length insts.now) run.old.seen ≢ Stuck
         → IsOutcome (steps_within setting given (length insts.now) run.old.seen) result run.new }
     ensures plain { (setting : MachineSetting) (given : Input) → HasCode setting program.now.code → IsPlainFrom (drop run.old.seen.frame.place insts.now)
         → IsPlainOutcome (steps_within setting given (length insts.now) run.old.seen) result run.new }
-    ensures grows { result ≢ Progress.NoMemory → GrowsByOne words.old words.new run.old.seen.shared run.new.seen.shared }
+    ensures grows { result ≢ Progress.NoMemory → GrowsLittle words.old words.new run.old.seen.shared run.new.seen.shared }
 {
     for _tried in 0..insts.len() {
         match instruction_at(insts, run.place()) {
@@ -174,13 +180,13 @@ pub fn turn(
     requires all { IsBuiltCode program.now.code }
     requires small { AreSmall program.now }
     requires task { run.old.seen.task ≡ 0 }
-    requires chains { length run.old.seen.shared.chains < 2 ^ 32 - 1 }
+    requires chains { length run.old.seen.shared.chains < 2 ^ 32 - 2 }
     requires room { HasRoom run.old.seen.shared }
     ensures step { (setting : MachineSetting) (given : Input) → HasProgram setting program.now → AreNext setting words.old run.old.seen.shared.drawn
         → machine_step setting given run.old.seen ≢ Stuck → IsOutcome (machine_step setting given run.old.seen) result run.new }
     ensures plain { (setting : MachineSetting) (given : Input) → HasCode setting program.now.code → IsPlainAt program.now.code run.old.seen.frame
         → IsPlainOutcome (machine_step setting given run.old.seen) result run.new }
-    ensures grows { result ≢ Progress.NoMemory → GrowsByOne words.old words.new run.old.seen.shared run.new.seen.shared }
+    ensures grows { result ≢ Progress.NoMemory → GrowsLittle words.old words.new run.old.seen.shared run.new.seen.shared }
 {
     let insts = instructions_of(&program.code, run.func());
     instructions(program, run, words, numbers, insts)

@@ -5,12 +5,14 @@ use Rattle.mi_code.specs.declared.operations.MiOp.{MiOp}
 use Rattle.ir_machine.specs.CallSteps.{call_step, leave_step}
 use Rattle.ir_machine.specs.CheckSteps.{one_step}
 use Rattle.ir_machine.specs.InstructionStep.{marked_step, operation_step, steps_within}
+use Rattle.ir_machine.specs.LibraryCalls.{library_step}
 use Rattle.ir_machine.specs.RunStates.{IsOutcome, IsPlainOutcome, left_at}
 use Rattle.ir_machine.specs.State.{MachineOutcome, MachineSeen}
 use Rattle.ir_machine.proofs.BuiltCode.{returns-after}
-use Rattle.ir_machine.proofs.StepGrowth.{adds-grow, adds-none, one-adds, operation-adds, outcome-adds, setting_with, setting_with-code}
+use Rattle.ir_machine.proofs.Growth.{adds-little, outcome-little}
+use Rattle.ir_machine.proofs.StepGrowth.{one-adds, other_check-adds, operation-adds, setting_with, setting_with-code}
 use Rattle.ir_machine.proofs.Outcomes.{from_plain}
-use Rattle.ir_machine.proofs.TurnSteps.{built-ordinary, entry-not-plain, ordinary, plain-after}
+use Rattle.ir_machine.proofs.TurnSteps.{built-ordinary, entry-not-plain, ordinary, other-check, plain-after}
 use Rattle.ir_machine.specs.Built.{IsBuiltAdded, IsBuiltOp, IsLeave, IsOrdinary, IsPlainFrom}
 use Rattle.ir_machine.specs.declared.progress.Progress.{Progress}
 use Rattle.ir_machine.proofs.turn.instruction.Goals as goal
@@ -48,10 +50,48 @@ returns-in-One-clause-grows c x is some =
     let seen = c.args.run.now.seen in
     let next : MachineSeen → MachineOutcome = λ s. Stuck in
     let outcome = one_step seen c.in-Some.site c.in-One.at c.in-One.n c.in-One.access next in
-    adds-grow c.args.words.now seen.shared c.check_one.new.self.seen.shared
-    (outcome-adds seen.shared outcome x c.check_one.new.self
+    outcome-little c.args.words.now seen.shared outcome x c.check_one.new.self
     (from_plain outcome x c.check_one.new.self (c.check_one.ensures.fails x is next)) some
-    (one-adds seen c.in-Some.site c.in-One.at c.in-One.n c.in-One.access))
+    (one-adds seen c.in-Some.site c.in-One.at c.in-One.n c.in-One.access)
+
+pub returns-in-Sized-clause-passes : goal.returns-in-Sized-clause-passes
+returns-in-Sized-clause-passes c none setting given next =
+    c.in-Some.ensures.step c.in-Some.site refl setting given next c.args.run.now.seen ∙ c.other_check.ensures.passes none setting given next
+
+pub returns-in-Sized-clause-step : goal.returns-in-Sized-clause-step
+returns-in-Sized-clause-step c x is setting given fuel has words goes =
+    let seen = c.args.run.now.seen in
+    let next = steps_within setting given fuel in
+    from_plain _ x c.other_check.new.run
+    (subst (λ (o : MachineOutcome). IsPlainOutcome o x c.other_check.new.run) (sym (c.in-Some.ensures.step c.in-Some.site refl setting given next seen)) (c.other_check.ensures.fails x is setting given next))
+
+pub returns-in-Sized-clause-plain : goal.returns-in-Sized-clause-plain
+returns-in-Sized-clause-plain c x is setting given next insts plain =
+    subst (λ (o : MachineOutcome). IsPlainOutcome o x c.other_check.new.run) (sym (c.in-Some.ensures.step c.in-Some.site refl setting given next c.args.run.now.seen))
+    (c.other_check.ensures.fails x is setting given next)
+
+pub returns-in-Sized-clause-grows : goal.returns-in-Sized-clause-grows
+returns-in-Sized-clause-grows c x is some =
+    let seen = c.args.run.now.seen in
+    let op = c.args.mi.now.op in
+    let setting = setting_with c.args.program.now.code in
+    let next : MachineSeen → MachineOutcome = λ s. Stuck in
+    let outcome = operation_step setting End c.in-Some.site next seen op in
+    outcome-little c.args.words.now seen.shared outcome x c.other_check.new.run
+    (from_plain outcome x c.other_check.new.run (c.other_check.ensures.fails x is setting End next)) some
+    (other_check-adds setting End c.in-Some.site seen op (other-check op c.in-Sized.is))
+
+pub returns-in-CallLib-clause-step : goal.returns-in-CallLib-clause-step
+returns-in-CallLib-clause-step c x is setting given fuel has words goes =
+    let seen = c.args.run.now.seen in
+    let site = c.in-Some.site in
+    let next = steps_within setting given fuel in
+    let same : c.library.result ≡ x = cc in
+    let outcome : marked_step setting given next seen c.args.mi.now.mark c.args.mi.now.op ≡ library_step setting given seen site c.in-CallLib.lib c.in-CallLib.to c.in-CallLib.args c.in-CallLib.start =
+    c.in-Some.ensures.step site refl setting given next seen ∙ ap (λ (op : MiOp). operation_step setting given site next seen op) c.in-CallLib.is in
+    subst (λ (o : MachineOutcome). IsOutcome o x c.library.new.run) (sym outcome)
+    (subst (λ (p : Progress). IsOutcome (library_step setting given seen site c.in-CallLib.lib c.in-CallLib.to c.in-CallLib.args c.in-CallLib.start) p c.library.new.run) same
+    (c.library.ensures.step setting given c.in-CallLib.start words))
 
 pub returns-in-Call-clause-step : goal.returns-in-Call-clause-step
 returns-in-Call-clause-step c x is setting given fuel has words goes =
@@ -82,7 +122,9 @@ returns-in_default-op c =
     let seen = c.args.run.now.seen in
     let op = c.args.mi.now.op in
     let site = c.in-Some.site in
-    let other : IsOrdinary op = ordinary op (λ at n access is. c.in_default-op.not-One at n access is) (λ func to args is. c.in_default-op.not-Call func to args is) (λ is. c.in_default-op.not-Leave is) in
+    let other : IsOrdinary op = ordinary op (λ at n access is. c.in_default-op.not-One at n access is) (λ at size access is. c.in_default-op.not-Sized at size access is)
+    (λ at is. c.in_default-op.not-Str at is) (λ at is. c.in_default-op.not-FreeCheck at is)
+    (λ func to args is. c.in_default-op.not-Call func to args is) (λ lib to args start is. c.in_default-op.not-CallLib lib to args start is) (λ is. c.in_default-op.not-Leave is) in
     let built : IsBuiltOp op = built-ordinary op (c.in-Some.ensures.built site refl) other in
     let code = setting_with c.args.program.now.code in
     let next : MachineSeen → MachineOutcome = λ s. Stuck in
@@ -103,8 +145,7 @@ returns-in_default-op c =
           (subst (λ (p : Progress). IsPlainOutcome (operation_step setting given site after seen op) p c.operation.new.run) same (c.operation.ensures.plain setting given after plain));
       grows = λ x e some.
           let same : c.operation.result ≡ x = cc in
-          adds-grow c.args.words.now seen.shared c.operation.new.run.seen.shared
-          (outcome-adds seen.shared (operation_step code End site next seen op) x c.operation.new.run
+          outcome-little c.args.words.now seen.shared (operation_step code End site next seen op) x c.operation.new.run
           (subst (λ (p : Progress). IsOutcome (operation_step code End site next seen op) p c.operation.new.run) same (c.operation.ensures.step code End next (setting_with-code c.args.program.now.code))) some
-          (operation-adds code End site next seen op built other));
+          (operation-adds code End site next seen op built other);
     }

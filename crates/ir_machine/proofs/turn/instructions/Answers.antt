@@ -4,10 +4,11 @@ use Rattle.hw_tags.specs.declared.words.Words.{Words}
 use Rattle.ir_machine.specs.Built.{IsPlainFrom}
 use Rattle.ir_machine.specs.CallSteps.{code_at}
 use Rattle.ir_machine.specs.InstructionStep.{steps_within}
-use Rattle.ir_machine.specs.RunStates.{RunState, AreNext, GrowsByOne, HasRoom, IsOutcome, IsPlainOutcome}
+use Rattle.ir_machine.specs.RunStates.{RunState, AreNext, GrowsLittle, HasRoom, IsOutcome, IsPlainOutcome}
 use Rattle.ir_machine.specs.State.{MachineOutcome, MachineShared}
 use Rattle.ir_machine.proofs.BuiltCode.{built-among}
-use Rattle.ir_machine.proofs.StepGrowth.{adds-grow, adds-none}
+use Rattle.ir_machine.proofs.Growth.{adds-little}
+use Rattle.ir_machine.proofs.StepGrowth.{adds-none}
 use Rattle.ir_machine.proofs.TurnSteps.{plain-here, plain-nowhere, plain-past, steps_within-at, steps_within-none, steps_within-nowhere}
 use Rattle.ir_machine.proofs.turn.instructions.Goals as goal
 
@@ -58,8 +59,8 @@ returns-in-Some-instruction-clause-plain c setting given has is =
 pub returns-in-Some-instruction-clause-grows : goal.returns-in-Some-instruction-clause-grows
 returns-in-Some-instruction-clause-grows c some =
     let so_far = c.loop-tried.invariant in
-    subst (λ (w : Words). GrowsByOne w c.instruction.new.words c.args.run.now.seen.shared c.instruction.new.run.seen.shared) so_far.words
-    (subst (λ (shared : MachineShared). GrowsByOne c.loop-tried.words c.instruction.new.words shared c.instruction.new.run.seen.shared) so_far.shared
+    subst (λ (w : Words). GrowsLittle w c.instruction.new.words c.args.run.now.seen.shared c.instruction.new.run.seen.shared) so_far.words
+    (subst (λ (shared : MachineShared). GrowsLittle c.loop-tried.words c.instruction.new.words shared c.instruction.new.run.seen.shared) so_far.shared
     (c.in-Some-instruction.ensures.grows c.in-Some-instruction.progress refl some))
 
 pub loop-tried-preserved : goal.loop-tried-preserved
@@ -107,9 +108,9 @@ returns-in-None-clause-plain c setting given has is =
 pub returns-in-None-clause-grows : goal.returns-in-None-clause-grows
 returns-in-None-clause-grows c some =
     let so_far = c.loop-tried.invariant in
-    subst (λ (shared : MachineShared). GrowsByOne c.args.words.now c.loop-tried.words c.args.run.now.seen.shared shared) (sym so_far.shared)
-    (subst (λ (w : Words). GrowsByOne c.args.words.now w c.args.run.now.seen.shared c.args.run.now.seen.shared) (sym so_far.words)
-    (adds-grow c.args.words.now c.args.run.now.seen.shared c.args.run.now.seen.shared (adds-none c.args.run.now.seen.shared)))
+    subst (λ (shared : MachineShared). GrowsLittle c.args.words.now c.loop-tried.words c.args.run.now.seen.shared shared) (sym so_far.shared)
+    (subst (λ (w : Words). GrowsLittle c.args.words.now w c.args.run.now.seen.shared c.args.run.now.seen.shared) (sym so_far.words)
+    (adds-little c.args.words.now c.args.run.now.seen.shared c.args.run.now.seen.shared (adds-none c.args.run.now.seen.shared)))
 
 pub returns-clause-step : goal.returns-clause-step
 returns-clause-step c setting given has next goes =
@@ -125,6 +126,6 @@ returns-clause-plain c setting given has is =
 pub returns-clause-grows : goal.returns-clause-grows
 returns-clause-grows c some =
     let so_far = c.loop-tried.invariant in
-    subst (λ (shared : MachineShared). GrowsByOne c.args.words.now c.loop-tried.words c.args.run.now.seen.shared shared) (sym so_far.shared)
-    (subst (λ (w : Words). GrowsByOne c.args.words.now w c.args.run.now.seen.shared c.args.run.now.seen.shared) (sym so_far.words)
-    (adds-grow c.args.words.now c.args.run.now.seen.shared c.args.run.now.seen.shared (adds-none c.args.run.now.seen.shared)))
+    subst (λ (shared : MachineShared). GrowsLittle c.args.words.now c.loop-tried.words c.args.run.now.seen.shared shared) (sym so_far.shared)
+    (subst (λ (w : Words). GrowsLittle c.args.words.now w c.args.run.now.seen.shared c.args.run.now.seen.shared) (sym so_far.words)
+    (adds-little c.args.words.now c.args.run.now.seen.shared c.args.run.now.seen.shared (adds-none c.args.run.now.seen.shared)))

@@ -34,7 +34,7 @@ invariant_of-result c =
       words_are = c.in_ok-run.ensures.words;
     } in
     is-ready m options c.args.code program first c.new-3.new.words loaded c.enter_if.new.self c.go_to.new.self c.enter_if.new.words c.in_ok-place.place
-    c.in_ok-place.ensures.shared c.in_ok-place.ensures.grows c.in_ok-place.ensures.chains c.go_to.ensures c.requires.built c.requires.variables
+    c.in_ok-place.ensures.shared c.in_ok-place.ensures.grows c.go_to.ensures c.requires.built c.requires.variables
 
 pub returns-clause-started : goal.returns-clause-started
 returns-clause-started c =
@@ -50,4 +50,4 @@ returns-clause-started c =
       words_are = c.in_ok-run.ensures.words;
     } in
     is-started m options c.args.code program first c.new-3.new.words loaded c.enter_if.new.self c.go_to.new.self c.enter_if.new.words c.in_ok-place.place
-    c.in_ok-place.ensures.shared c.in_ok-place.ensures.grows c.in_ok-place.ensures.chains c.go_to.ensures c.in_ok-place.ensures.entry
+    c.in_ok-place.ensures.shared c.in_ok-place.ensures.grows c.go_to.ensures c.in_ok-place.ensures.entry

@@ -5,7 +5,8 @@ use Rattle.hw_base.specs.declared.endings.Trap.TheVariants.{TooDeep}
 use Rattle.ir_machine.specs.CallSteps.{call_step}
 use Rattle.ir_machine.specs.StepEnds.{traps}
 use Rattle.ir_machine.proofs.Outcomes.{from_plain}
-use Rattle.ir_machine.proofs.StepGrowth.{adds-grow, outcome-adds, traps-add}
+use Rattle.ir_machine.proofs.Growth.{outcome-little}
+use Rattle.ir_machine.proofs.StepGrowth.{traps-add}
 use Rattle.ir_machine.proofs.run.Run.call.Goals as goal
 
 pub returns-clause-step : goal.returns-clause-step
@@ -19,5 +20,4 @@ pub returns-then-depth-clause-grows : goal.returns-then-depth-clause-grows
 returns-then-depth-clause-grows c some =
     let seen = c.args.self.now.seen in
     let outcome = traps seen c.args.site TooDeep in
-    adds-grow c.args.words.now seen.shared c.trap.new.self.seen.shared
-    (outcome-adds seen.shared outcome c.trap.result c.trap.new.self (from_plain outcome c.trap.result c.trap.new.self c.trap.ensures) some (traps-add seen c.args.site TooDeep))
+    outcome-little c.args.words.now seen.shared outcome c.trap.result c.trap.new.self (from_plain outcome c.trap.result c.trap.new.self c.trap.ensures) some (traps-add seen c.args.site TooDeep)

@@ -10,7 +10,7 @@ returns-in-Ok-clause-ok c =
     let inside = c.self.inside in
     let after : StacksAfter = record { stacks = c.enter.new.self; space = c.enter.new.mem } in
     let state : RunState = record {
-      seen = only_task (shared_of c.enter.new.mem inside.globals c.enter.new.self (inside.births + 1) (inside.drawn + 1) inside.heap inside.ring inside.chains) inside.calls inside.step;
+      seen = only_task (shared_of c.enter.new.mem inside.globals inside.heap.state c.enter.new.self (inside.births + 1) (inside.drawn + 1) inside.chains) inside.calls inside.step;
       printed = inside.printed.items;
       ending = ending_of inside.ending;
     } in

@@ -27,7 +27,7 @@ returns-in-Err c =
     let here : write_fault seen.shared.memory number n ≡ Some fault = subst (λ (space : AddressSpace). write_fault space number n ≡ Some fault) memory refused.0 in
     let outcome : with_write seen c.args.site number (le_bytes n (integer_in seen (bits_in c.args.width) c.args.value.now)) goes_on ≡ refused_at seen c.args.site Write n number fault =
     write-refused seen c.args.site number n (integer_in seen (bits_in c.args.width) c.args.value.now) fault here in
-    let same = ap (λ (space : AddressSpace). only_task (shared_of space c.self.inside.globals c.self.inside.stacks c.self.inside.births c.self.inside.drawn c.self.inside.heap c.self.inside.ring c.self.inside.chains) c.self.inside.calls c.self.inside.step) refused.1
+    let same = ap (λ (space : AddressSpace). only_task (shared_of space c.self.inside.globals c.self.inside.heap.state c.self.inside.stacks c.self.inside.births c.self.inside.drawn c.self.inside.chains) c.self.inside.calls c.self.inside.step) refused.1
     ∙ ap (λ (v : RunState). v.seen) c.self.view_is in
     let ended : IsPlainOutcome (refused_at seen c.args.site Write n number fault) c.refused.result c.refused.new.self =
     subst (λ (s : MachineSeen). IsPlainOutcome (refused_at s c.args.site Write n number fault) c.refused.result c.refused.new.self) same c.refused.ensures in
