@@ -1,3 +1,4 @@
+pub mod GivenRanges
 pub mod Causes
 pub mod ClosingBytes
 pub mod Exactness

@@ -73,12 +73,17 @@ abbrev pub ring_or : Option ℕ → ℕ
 ring_or None = RING
 ring_or (Some ring) = ring
 
+-- the size of the heap in bytes, by default the constant
+abbrev pub heap_or : Option ℕ → ℕ
+heap_or None = HEAP
+heap_or (Some heap) = heap
+
 -- the options of a run under a command
 pub record IsOptionsOf (l : Line) (options : Options) : Type 0 where
   pub tags : options.tags ≡ tag_words l.given.tags
   pub turns : options.turns ≡ Seed 1
   pub steps : options.steps ≡ bound_under l
-  pub heap : options.heap ≡ HEAP
+  pub heap : options.heap ≡ heap_or l.given.heap
   pub ring : options.ring ≡ ring_or l.given.ring
 
 -- ---- decisions

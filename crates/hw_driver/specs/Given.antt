@@ -1,7 +1,7 @@
 -- The options that are given are in their ranges.
 use Rattle.std.specs.Prelude.{ℕ, Option, Some, None, IsSome, option_map}
 use Rattle.std.specs.Option.{ForSome}
-use Rattle.hw_tags.specs.Options.{IsRingSize, IsStepBound}
+use Rattle.hw_tags.specs.Options.{IsHeapSize, IsRingSize, IsStepBound}
 use Rattle.hw_tags.specs.declared.words_spec.WordsSpec.{WordsSpec}
 use Rattle.hw_tags.specs.declared.words_spec.WordsSpec.TheVariants as spec
 use Rattle.hw_driver.specs.Line.{tag_list}
@@ -27,7 +27,11 @@ HasBound steps = ForSome steps IsStepBound
 abbrev pub HasRing : Option ℕ → Type 0
 HasRing ring = ForSome ring IsRingSize
 
+abbrev pub HasHeap : Option ℕ → Type 0
+HasHeap heap = ForSome heap IsHeapSize
+
 pub record IsGiven (given : Given) : Type 0 where
   pub tags : HasTags given.tags
   pub steps : HasBound given.steps
   pub ring : HasRing given.ring
+  pub heap : HasHeap given.heap

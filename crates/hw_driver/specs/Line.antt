@@ -1,18 +1,20 @@
 -- The words of the command line that are a command. This project's choice.
-use Rattle.std.specs.Prelude.{ℕ, ◌^◌, ◌==◌, List, [], ◌∷◌, length, Option, Some, None, Bool, ◌&&◌, not, nat_lt, nat_le, nat_eq, if◌then◌else◌, codes, option_map}
+use Rattle.std.specs.Prelude.{ℕ, ◌%◌, ◌^◌, ◌==◌, List, [], ◌∷◌, length, Option, Some, None, Bool, ◌&&◌, not, nat_lt, nat_le, nat_eq, if◌then◌else◌, codes, option_map}
 use Rattle.std.specs.Char.{is_ascii_digit}
 use Rattle.std.specs.List.{starts_with, list_all, slice_split}
 use Rattle.std.specs.Str.{bytes_eq}
 use Rattle.std.specs.Str.Parse.{digits_value}
-use Rattle.hw_base.specs.declared.numbers.TheConstants.{MOST_RING, MOST_STEPS, MOST_WORDS}
+use Rattle.hw_base.specs.declared.numbers.TheConstants.{MOST_HEAP, MOST_RING, MOST_STEPS, MOST_WORDS}
 use Rattle.hw_tags.specs.declared.words_spec.WordsSpec.{WordsSpec}
 use Rattle.hw_tags.specs.declared.words_spec.WordsSpec.TheVariants.{Cycle, Seed}
 
--- the options that are given: the tag words, a bound on the steps, and how many ended frames and freed blocks a task remembers
+-- the options that are given: the tag words, a bound on the steps, how many ended frames and freed blocks a task remembers, and the
+-- size of the heap in bytes
 pub record Given : Type 0 where
   pub tags : Option WordsSpec
   pub steps : Option ℕ
   pub ring : Option ℕ
+  pub heap : Option ℕ
 
 -- a command: the FILE word, and the options that are given
 pub record Line : Type 0 where
@@ -50,6 +52,13 @@ is_ring n = nat_le 1 n && nat_le n MOST_RING
 
 abbrev pub ring_size : List ℕ → Option ℕ
 ring_size text = within is_ring (number_of text)
+
+-- a size of the heap in bytes: a multiple of 16, from 16 on, to the greatest
+abbrev pub is_heap : ℕ → Bool
+is_heap n = n % 16 == 0 && (nat_le 16 n && nat_le n MOST_HEAP)
+
+abbrev pub heap_size : List ℕ → Option ℕ
+heap_size text = within is_heap (number_of text)
 
 -- ---- tag words
 
@@ -102,11 +111,14 @@ add_steps given value = option_map (λ steps. record given { steps = Some steps 
 abbrev pub add_ring : Given → List ℕ → Option Given
 add_ring given value = option_map (λ ring. record given { ring = Some ring }) (once given.ring (ring_size value))
 
+abbrev pub add_heap : Given → List ℕ → Option Given
+add_heap given value = option_map (λ heap. record given { heap = Some heap }) (once given.heap (heap_size value))
+
 -- an option of a run of the machine
 unfoldable pub add_limit : Given → (name value : List ℕ) → Option Given
 add_limit given name value =
     if bytes_eq name (codes "--steps") then add_steps given value
-    else (if bytes_eq name (codes "--ring") then add_ring given value else None)
+    else (if bytes_eq name (codes "--ring") then add_ring given value else (if bytes_eq name (codes "--heap") then add_heap given value else None))
 
 unfoldable pub add_option : Given → (name value : List ℕ) → Option Given
 add_option given name value =
@@ -121,7 +133,7 @@ options_after (name ∷ []) (Some given) = None
 options_after (name ∷ value ∷ words) (Some given) = options_after words (add_option given name value)
 
 abbrev pub none_given : Given
-none_given = record { tags = None; steps = None; ring = None }
+none_given = record { tags = None; steps = None; ring = None; heap = None }
 
 -- run FILE, with options after it
 unfoldable pub line_with : (mode file : List ℕ) → Option Given → Option Line

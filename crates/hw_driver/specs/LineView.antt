@@ -7,7 +7,7 @@ use Rattle.hw_driver.specs.Given.{tags_view}
 use Rattle.hw_driver.specs.Line.{Given, Line}
 
 abbrev pub given_view : code.Given → Given
-given_view g = record { tags = tags_view g.tags; steps = g.steps; ring = g.ring }
+given_view g = record { tags = tags_view g.tags; steps = g.steps; ring = g.ring; heap = g.heap }
 
 abbrev pub line_view : Command → Line
 line_view c = record { file = c.file.now; given = given_view c.given }

@@ -7,12 +7,14 @@ pub enum TagWords<'a> {
     Seed(u64),
 }
 
-/// The options that are given: the tag words, a bound on the steps, and how many ended frames and freed blocks a task remembers.
+/// The options that are given: the tag words, a bound on the steps, how many ended frames and freed blocks a task remembers, and
+/// the size of the heap in bytes.
 #[derive(Clone, Copy)]
 pub struct Given<'a> {
     pub tags: Option<TagWords<'a>>,
     pub steps: Option<u64>,
     pub ring: Option<u32>,
+    pub heap: Option<u64>,
 }
 
 /// A command: the FILE word, and the options that are given.

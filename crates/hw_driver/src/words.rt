@@ -2,12 +2,12 @@ ghost use Rattle.std.specs.Prelude.{◌≡◌, ◌^◌, true, List, ℕ, Option,
 ghost use Rattle.std.specs.Char.{is_ascii_digit};
 ghost use Rattle.std.specs.List.{list_all};
 ghost use Rattle.std.specs.Option.{ForSome, is_some};
-ghost use Rattle.hw_driver.specs.Given.{HasBound, HasRing, IsGiven};
-ghost use Rattle.hw_driver.specs.Line.{is_file, is_number, tag_word, tag_list, is_bound, is_ring, number_of, step_bound, ring_size, add_tags, add_seed, add_steps, add_ring, add_limit, add_option, options_after, none_given, line_with, line};
+ghost use Rattle.hw_driver.specs.Given.{HasBound, HasHeap, HasRing, IsGiven};
+ghost use Rattle.hw_driver.specs.Line.{is_file, is_number, tag_word, tag_list, is_bound, is_ring, is_heap, number_of, step_bound, ring_size, heap_size, add_tags, add_seed, add_steps, add_ring, add_heap, add_limit, add_option, options_after, none_given, line_with, line};
 ghost use Rattle.hw_driver.specs.LineView.{given_view, line_view, texts};
 
 use crate::command::{Command, Given, TagWords};
-use hw_base::{ByteList, MOST_RING, MOST_STEPS, MOST_WORDS, OutOfMemory};
+use hw_base::{ByteList, MOST_HEAP, MOST_RING, MOST_STEPS, MOST_WORDS, OutOfMemory};
 use std::alloc::Global;
 
 fn is_file(name: &str) -> bool
@@ -82,6 +82,21 @@ fn ring_size(text: &str) -> Option<u32>
     } else {
         None
     }
+}
+
+fn is_heap(heap: u64) -> bool
+    ensures { result ≡ is_heap heap }
+{
+    heap % 16 == 0 && (16 <= heap && heap <= MOST_HEAP)
+}
+
+// A size of the heap in bytes.
+fn heap_size(text: &str) -> Option<u64>
+    ensures value { result ≡ heap_size text.now }
+    ensures range { HasHeap result }
+{
+    let heap = number_of(text)?;
+    if is_heap(heap) { Some(heap) } else { None }
 }
 
 // ---- lists of tag words
@@ -180,6 +195,20 @@ fn add_ring<'a>(given: Given<'a>, value: &str) -> Option<Given<'a>>
     }
 }
 
+fn add_heap<'a>(given: Given<'a>, value: &str) -> Option<Given<'a>>
+    requires { IsGiven given }
+    ensures value { option_map given_view result ≡ add_heap (given_view given.entry) value.now }
+    ensures range { ForSome result IsGiven }
+{
+    match given.heap {
+        None => {
+            let heap = Some(heap_size(value)?);
+            Some(Given { heap, ..given })
+        }
+        Some(_) => None,
+    }
+}
+
 // An option of a run of the machine with its value beside others, if it is one and isn't given yet.
 #[tactic(auto, unfolding(crate::specs::Line::add_limit))]
 fn add_limit<'a>(given: Given<'a>, name: &str, value: &str) -> Option<Given<'a>>
@@ -191,6 +220,8 @@ fn add_limit<'a>(given: Given<'a>, name: &str, value: &str) -> Option<Given<'a>>
         add_steps(given, value)
     } else if name == "--ring" {
         add_ring(given, value)
+    } else if name == "--heap" {
+        add_heap(given, value)
     } else {
         None
     }
@@ -221,6 +252,7 @@ fn options_of(words: &[String]) -> Option<Given<'_>>
         tags: None,
         steps: None,
         ring: None,
+        heap: None,
     };
     let mut rest = words;
     while let [name, value, after @ ..] = rest {

@@ -6,6 +6,7 @@ mod clang;
 mod faults;
 mod frames;
 mod globals;
+mod heap;
 mod modules;
 mod reports;
 mod words;

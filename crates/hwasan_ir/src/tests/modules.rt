@@ -236,7 +236,7 @@ const UNBUILT: [(&str, &str); 5] = [
         "refused: 3 Unsupported at 3:3\n",
     ),
     (
-        "declare ptr @malloc(i64)\ndefine ptr @f() {\n  %p = call ptr @malloc(i64 8)\n  ret ptr %p\n}\ndefine i32 @main() {\n  ret i32 0\n}\n",
+        "declare i64 @strlen(ptr)\ndefine i64 @f(ptr %p) {\n  %n = call i64 @strlen(ptr %p)\n  ret i64 %n\n}\ndefine i32 @main() {\n  ret i32 0\n}\n",
         "refused: 3 Unsupported at 3:3\n",
     ),
     (
